@@ -1,0 +1,14 @@
+pub mod Lists
+pub mod Numbers
+pub mod Bits
+pub mod Table
+pub mod Every
+pub mod Kids
+pub mod Nodes
+pub mod Tests
+pub mod Walk
+pub mod Depth
+pub mod Opening
+pub mod Places
+pub mod Scans
+pub mod Facts

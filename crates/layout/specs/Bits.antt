@@ -1,0 +1,24 @@
+-- Bits of bytes, the lowest first.
+use mathlib.Core.List.{List, [], _∷_}
+use mathlib.Core.Bool.{Bool, true, false}
+use Prim.Native.Nat.{ℕ, zero, suc, _+_, _/_, _%_, _^_}
+use lib.ListN.{getD}
+use lib.Dec.{eqb}
+
+-- n bits fill n / 8 bytes, rounded up
+abbrev pub bytesFor : ℕ → ℕ
+bytesFor n = (n + 7) / 8
+
+-- bit i of a byte is 1
+abbrev pub bitOf : ℕ → ℕ → Bool
+bitOf n i = eqb (n / 2 ^ i % 2) 1
+
+-- bit r of a run of bytes is 1
+abbrev pub bitAt : List ℕ → ℕ → Bool
+bitAt buf r = bitOf (getD buf (r / 8) 0) (r % 8)
+
+-- how many are 0
+abbrev pub zeros : List Bool → ℕ
+zeros [] = 0
+zeros (true ∷ bs) = zeros bs
+zeros (false ∷ bs) = suc (zeros bs)

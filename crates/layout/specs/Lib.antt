@@ -1,0 +1,10 @@
+pub mod Lists
+pub mod Numbers
+pub mod Bits
+pub mod Faults
+pub mod Kinds
+pub mod Nodes
+pub mod Rows
+pub mod Rules
+pub mod Tests
+pub mod Opening

@@ -1,0 +1,4 @@
+pub mod Alignments
+pub mod Checks
+pub mod Options
+pub mod View
