@@ -3,6 +3,7 @@ use Prim.Native.Nat.{ℕ, zero, suc, _+_, _-_, _*_, _<_, _≤_}
 use mathlib.Core.Path.{_≡_, refl, sym, ap, _∙_}
 use mathlib.Core.Bool.{Bool, true, false, cond, _&&_}
 use mathlib.Core.Logic.{_⊎_, inl, inr}
+use native.Mathlib.Nat.{add-suc}
 use native.Mathlib.Numerals.{add-one}
 use native.Mathlib.Omega.{arith}
 use Rattle.std.specs.declared.option.Option.{Option}
@@ -60,3 +61,18 @@ cond-at b x h e = rw e at h
 pub cond-all : (b x : Bool) → (b ≡ true → x ≡ true) → cond b x true ≡ true
 cond-all true x h = h refl
 cond-all false x h = refl
+
+-- some, and then more
+pub every-add : (a b : ℕ) (p : ℕ → Bool) → every (a + b) p ≡ (every a p && every b (λ k. p (a + k)))
+every-add a zero p = ap (λ (n : ℕ). every n p) (omega arith) ∙ alone (every a p)
+  where
+    alone : (b : Bool) → b ≡ (b && true)
+    alone true = refl
+    alone false = refl
+every-add a (suc b) p =
+    ap (λ (n : ℕ). every n p) (add-suc a b) ∙ ap (λ (x : Bool). p (a + b) && x) (every-add a b p) ∙ mixed (p (a + b)) (every a p) (every b (λ k. p (a + k)))
+  where
+    mixed : (x y z : Bool) → (x && (y && z)) ≡ (y && (x && z))
+    mixed true y z = refl
+    mixed false true z = refl
+    mixed false false z = refl

@@ -2,7 +2,7 @@ ghost use mathlib.Core.Path.{_≡_};
 ghost use Rattle.layout.specs.Faults.{refusalNumber, faultOf};
 
 /// Why a call is refused. RULES.md has the rule behind each.
-#[derive(Clone, Copy, PartialEq, Eq, Debug)]
+#[derive(Clone, Copy)]
 pub enum Refusal {
     Alignment,
     NodeBytes,
@@ -53,7 +53,7 @@ impl Refusal {
 }
 
 /// A refusal and where it arose: column and node count from 0, and are 0 where none is concerned.
-#[derive(Clone, Copy, PartialEq, Eq, Debug)]
+#[derive(Clone, Copy)]
 pub struct Fault {
     pub refusal: Refusal,
     pub column: u64,

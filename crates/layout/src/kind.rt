@@ -6,7 +6,7 @@ use crate::bit::bytes_for;
 use crate::number::Width;
 
 /// What a node holds: the nine kinds of the table.
-#[derive(Clone, Copy, PartialEq, Eq)]
+#[derive(Clone, Copy)]
 pub enum Kind {
     Null,
     Boolean,

@@ -1,4 +1,5 @@
 pub mod Alignments
 pub mod Checks
 pub mod Options
+pub mod Scans
 pub mod View

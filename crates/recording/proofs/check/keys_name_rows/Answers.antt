@@ -12,7 +12,7 @@ use Rattle.layout.proofs.Scans.{keys-unmarked, keys-marked}
 use Rattle.recording.proofs.check.keys_name_rows.Needs as need
 
 pub marked-below-requires : need.marked-below-requires
-marked-below-requires c κs = (c .pre .few, c .pre .slots, c .pre .bitmap (c .in-Some .bitmap) (sym (c .in-Some .ensures tt)))
+marked-below-requires c κs = record { few = c .pre .few; slots = c .pre .slots; bits = c .pre .bitmap (c .in-Some .bitmap) (sym (c .in-Some .ensures tt)) }
 
 pub returns-in-None : need.returns-in-None
 returns-in-None c =

@@ -1,24 +1,20 @@
-use Prim.Native.Nat.{ℕ, _+_, _*_}
-use mathlib.Core.Bool.{Bool, not, _||_}
-use mathlib.Core.Path.{_≡_, ap, ap₂, _∙_}
-use lib.Dec.{ltb}
-use native.Mathlib.Omega.{arith}
-use lib.ListN.{length, drop}
-use Rattle.layout.specs.Bits.{bitAt}
-use Rattle.layout.specs.Numbers.{wide, unsignedAt}
-use Rattle.layout.proofs.Every.{every-next}
-use Rattle.layout.proofs.Places.{slot-within}
+use Prim.Native.Nat.{ℕ}
+use mathlib.Core.Bool.{Bool}
+use mathlib.Core.Path.{_≡_, _∙_}
+use Rattle.recording.specs.Scans.{markedBelow}
+use Rattle.recording.proofs.Flagged.{head-fails, middle-fails, tail-tells}
 use Rattle.recording.proofs.scan.marked_below.Needs as need
 
-pub read-unsigned-x-requires : need.read-unsigned-x-requires
-read-unsigned-x-requires c κs =
-    slot-within (c .args .place) (c .args .from + c .loop-k .k) (c .args .from + c .args .rows) (wide (c .args .width)) (c .bytes-w .result) (length (c .args .bytes .now))
-    (c .bytes-w .ensures) (omega arith) (c .pre .1)
+pub returns-then-not-row-by-row : need.returns-then-not-row-by-row
+returns-then-not-row-by-row c =
+    head-fails (markedBelow (c .args .bytes .now) (c .args .bitmap) (c .args .width) (c .args .place) (c .args .bound)) (c .args .from) (c .args .rows) (c .min-head .result) (c .min-head .ensures) (c .if-not-row-by-row .ensures tt)
 
-pub loop-k-again : need.loop-k-again
-loop-k-again c =
-    let at : ℕ → ℕ = λ k. unsignedAt (c .args .bytes .now) (c .args .place + (c .args .from + k) * wide (c .args .width)) (c .args .width) in
-    let valid : ℕ → Bool = λ k. bitAt (drop (c .args .bitmap) (c .args .bytes .now)) (c .args .from + k) in
-    every-next (c .loop-k .k) (λ k. not (valid k) || ltb (at k) (c .args .bound)) (c .loop-k .ok) (not (c .read-bit-valid .result) || ltb (c .read-unsigned-x .result) (c .args .bound)) (c .loop-k .inv)
-    (ap₂ (λ (v : Bool) (x : ℕ). not v || ltb x (c .args .bound)) (c .read-bit-valid .ensures)
-    (c .read-unsigned-x .ensures ∙ ap (λ (w : ℕ). unsignedAt (c .args .bytes .now) (c .args .place + (c .args .from + c .loop-k .k) * w) (c .args .width)) (c .bytes-w .ensures)))
+pub returns-then-not-byte-by-byte : need.returns-then-not-byte-by-byte
+returns-then-not-byte-by-byte c =
+    middle-fails (markedBelow (c .args .bytes .now) (c .args .bitmap) (c .args .width) (c .args .place) (c .args .bound)) (c .args .from) (c .args .rows) (c .min-head .result) (c .min-head .ensures) (c .if-not-byte-by-byte .ensures tt)
+
+pub returns : need.returns
+returns c =
+    c .row-by-row-2 .ensures
+    ∙ tail-tells (markedBelow (c .args .bytes .now) (c .args .bitmap) (c .args .width) (c .args .place) (c .args .bound)) (c .args .from) (c .args .rows) (c .min-head .result) (c .min-head .ensures)
+    (c .if-not-row-by-row .ensures tt) (c .if-not-byte-by-byte .ensures tt)
