@@ -19,7 +19,7 @@ fn told<'x>(nodes: &'x [u8], bytes: &'x [u8]) -> Told {
     }
 }
 
-fn numbers(heap: Global, text: &str) -> Result<Vec<u64>, Fail> {
+pub fn numbers(heap: Global, text: &str) -> Result<Vec<u64>, Fail> {
     let mut all = Vec::new(heap);
     for word in text.split_whitespace() {
         all.push(word.parse::<u64>()?)?;

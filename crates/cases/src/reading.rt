@@ -1,6 +1,7 @@
 //! The readers of an opened recording, on one of each kind.
 use crate::opening::bytes;
 use crate::opening::nodes;
+use crate::opening::numbers;
 use layout::Kind;
 use layout::Width;
 use recording::Recording;
@@ -41,36 +42,40 @@ const BYTES: &str =
     "06 08 10 61 62 63 64 65 66 00 00 00 00 02 00 00 00 05 00 00 00 01 00 00 00 00 00 00 00 \
      01 00 00 00 00 00 00 00 04 00 00 00 00 00 00 00 00 00 00 00 03 00 00 00 04 00 00 00 08 00 ff ff 01";
 
-#[test]
-fn rows(rt: LibcRuntime) -> Result<(), Fail> {
-    let nodes = nodes(rt.alloc(), NODES)?;
-    let bytes = bytes(rt.alloc(), BYTES)?;
-    let mut recording = Recording::empty();
-    check(recording.open(nodes.as_slice(), bytes.as_slice()).is_ok())?;
-    check_eq(row(&recording, 1, 0), Some((false, 1)))?;
-    check_eq(row(&recording, 1, 1), Some((true, 0)))?;
-    check_eq(row(&recording, 1, 2), None)?;
-    check_eq(row(&recording, 2, 1), Some((true, 3)))?;
-    check_eq(row(&recording, 3, 1), Some((true, 2)))?;
-    check_eq(row(&recording, 4, 0), Some((true, 1)))?;
-    check_eq(row(&recording, 5, 1), Some((true, 3)))?;
-    check_eq(row(&recording, 7, 0), Some((true, 8)))?;
-    check_eq(row(&recording, 7, 1), Some((false, 65_535)))?;
-    check_eq(row(&recording, 0, 0), None)
-}
+// Node, row, whether it is valid (1 or 0), and the number that its slot holds.
+const ROWS: &str = "1 0 0 1\n1 1 1 0\n2 1 1 3\n3 1 1 2\n4 0 1 1\n5 1 1 3\n7 0 1 8\n7 1 0 65535";
+
+// Node, where its tree ends, and its null rows.
+const TREES: &str = "0 9 0\n1 2 1\n5 7 0\n6 7 4\n7 9 1";
 
 #[test]
-fn trees(rt: LibcRuntime) -> Result<(), Fail> {
-    let nodes = nodes(rt.alloc(), NODES)?;
-    let bytes = bytes(rt.alloc(), BYTES)?;
+fn rows_and_trees(rt: LibcRuntime) -> Result<(), Fail> {
+    let heap = rt.alloc();
+    let nodes = nodes(heap, NODES)?;
+    let bytes = bytes(heap, BYTES)?;
     let mut recording = Recording::empty();
     check(recording.open(nodes.as_slice(), bytes.as_slice()).is_ok())?;
-    check_eq(whole(&recording, 0), Some((9, 0)))?;
-    check_eq(whole(&recording, 1), Some((2, 1)))?;
-    check_eq(whole(&recording, 5), Some((7, 0)))?;
-    check_eq(whole(&recording, 6), Some((7, 4)))?;
-    check_eq(whole(&recording, 7), Some((9, 1)))?;
-    check_eq(whole(&recording, 9), None)
+    for line in ROWS.lines() {
+        let n = numbers(heap, line)?;
+        check(n.len() == 4 && n[0] < 9)?;
+        check_eq(
+            row(&recording, n[0] as usize, n[1]),
+            Some((n[2] == 1, n[3])),
+        ).note(line)?;
+    }
+    for line in TREES.lines() {
+        let n = numbers(heap, line)?;
+        check(n.len() == 3 && n[0] < 9 && n[1] < 10)?;
+        check_eq(
+            whole(&recording, n[0] as usize),
+            Some((n[1] as usize, n[2])),
+        ).note(line)?;
+    }
+    check(
+        row(&recording, 0, 0).is_none()
+            && row(&recording, 1, 2).is_none()
+            && whole(&recording, 9).is_none(),
+    )
 }
 
 // What a recording holds after an opening that succeeds and one that does not.

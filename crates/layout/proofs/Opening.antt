@@ -217,4 +217,9 @@ one-verdict nb bs (Err f) (Ok v) a b = absurd (not-both nb bs b f a)
 one-verdict nb bs (Err f) (Err g) a b = ap (λ (x : Fault). Err x) (same-refused nb bs f g a b)
 
 pub answers : (nb bs : List ℕ) (r : Result (Unit {0}) Fault) → Verdict nb bs r → Answers nb bs r
-answers nb bs r v = record { verdict = v; only = λ s w. one-verdict nb bs s r w v }
+answers nb bs r v =
+    record {
+      verdict = v;
+      only = λ s w. one-verdict nb bs s r w v;
+      opened = (λ e. subst (λ (r : Result (Unit {0}) Fault). Verdict nb bs r) e v, λ s. one-verdict nb bs r (Ok tt) v s);
+    }

@@ -56,10 +56,11 @@ abbrev pub Verdict : List ℕ → List ℕ → Result (Unit {0}) Fault → Type 
 Verdict nb bs (Ok _) = Sound nb bs
 Verdict nb bs (Err f) = Refused nb bs f
 
--- the answer is the one that the rules give, and no other is
+-- the answer is the one that the rules give, and no other is: opened exactly if no rule is broken
 pub record Answers (nb bs : List ℕ) (r : Result (Unit {0}) Fault) : Type 0 where
   pub verdict : Verdict nb bs r
   pub only : (s : Result (Unit {0}) Fault) → Verdict nb bs s → s ≡ r
+  pub opened : (r ≡ Ok tt) ↔ Sound nb bs
 
 -- ---- what every opened recording keeps
 

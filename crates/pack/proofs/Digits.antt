@@ -1,6 +1,6 @@
 -- Decimal numbers, a digit at a time.
 use Prim.Native.Nat.{ℕ, zero, suc, _+_, _-_, _*_, _^_, _≤_, _<_}
-use mathlib.Core.Path.{_≡_}
+use mathlib.Core.Path.{_≡_, sym, ap, _∙_}
 use mathlib.Core.Bool.{true, false}
 use mathlib.Core.List.{List, [], _∷_}
 use native.Mathlib.Omega.{arith}
@@ -8,12 +8,16 @@ use lib.Dec.{ltb}
 use lib.ListN.{length, getD, take}
 use Rattle.std.specs.Reads.{value, valueAfter}
 use Rattle.std.specs.Text.{In, digitValue}
+use Rattle.std.specs.Written.{decimal}
+use Rattle.std.specs.declared.result.Result.{Result}
 use Rattle.std.specs.declared.result.Result.the-variants.{Ok, Err}
 use Rattle.std.specs.shelf.Text.{allDigits}
+use Rattle.std.proofs.shelf.Decimals.{decimal-reads}
 use Rattle.std.proofs.shelf.Digits.{value-more}
 use Rattle.std.proofs.shelf.Numerals.{digit-at, numerals-by-value, tells-allDigits}
-use Rattle.std.proofs.shelf.Tests.{and-parts, lt-ltb, le-ltb}
+use Rattle.std.proofs.shelf.Tests.{and-parts, and-from, lt-ltb, le-ltb}
 use Rattle.std.proofs.shelf.Text.{digitValue-digit}
+use Rattle.pack.specs.declared.order.error.Why.{Why}
 use Rattle.pack.specs.declared.order.error.Why.the-variants.{NotNumber, NumberTooLarge}
 use Rattle.pack.specs.Numbers.{isNumeral, numberRead}
 
@@ -50,3 +54,15 @@ module _ (w : List ℕ) (h : isNumeral w ≡ true) where
 pub no-number : (w : List ℕ) → isNumeral w ≡ false → Err NotNumber ≡ numberRead w
 unfolding numberRead
 no-number w h = rw h
+
+printed : (n : ℕ) → n < 2 ^ 64 → isNumeral (decimal n) ≡ true
+printed n l =
+    let d = decimal-reads n l in
+    and-from (ltb 0 (length (decimal n))) (allDigits (decimal n)) (lt-ltb 0 (length (decimal n)) (d .0 .0))
+    (numerals-by-value (λ ds. allDigits ds ≡ true) tells-allDigits .from (decimal n) (d .0 .1))
+
+-- what is read of a printed number
+pub back : (w : List ℕ) (r : Result ℕ Why) → r ≡ numberRead w → (n : ℕ) → n < 2 ^ 64 → w ≡ decimal n → r ≡ Ok n
+back w r e n l is =
+    let d = decimal-reads n l in
+    e ∙ ap numberRead is ∙ sym (fitting (decimal n) (printed n l) (omega (arith, d .1))) ∙ ap (λ v. Ok v) (d .1)

@@ -1,4 +1,10 @@
 //! An order: text that spells the node tables and the bytes of some cases, an item a line.
+//!
+//! - `case NAME` starts a case.
+//! - `node` and ten numbers append a node to the table: kind mark size rows from bitmap slots data extent span.
+//! - `nodes HEX` and `nodesfile PATH` append bytes to the table, `bytes HEX` and `bytesfile PATH` to the bytes.
+//!
+//! Blanks stand between words, and `#` starts a comment. Hex is in pairs of digits, and `-` is none.
 ghost use mathlib.Core.Path.{_≡_};
 ghost use mathlib.Core.List.{[], _∷_, _++_};
 ghost use Rattle.std.specs.Options.{mapped};
@@ -9,8 +15,6 @@ mod error;
 mod hex;
 mod item;
 mod number;
-#[cfg(test)]
-mod tests;
 mod text;
 
 pub use error::OrderError;

@@ -23,9 +23,9 @@ impl fmt::Display for Why as WhyDisplay {
     fn fmt<W: fmt::Write>(&self, f: &mut fmt::Formatter<W>) -> fmt::Result {
         match self {
             Why::UnknownItem => f.write_str("no item has this name"),
-            Why::MissingWord => f.write_str("a word is missing"),
-            Why::ExtraWord => f.write_str("a word is too many"),
-            Why::NotText => f.write_str("the word is not UTF-8"),
+            Why::MissingWord => f.write_str("the line lacks a word"),
+            Why::ExtraWord => f.write_str("the line has a word too many"),
+            Why::NotText => f.write_str("a word is not UTF-8"),
             Why::NotNumber => f.write_str("a number is asked for, in decimal digits"),
             Why::NumberTooLarge => f.write_str("a number is above 18446744073709551615"),
             Why::NotHex => f.write_str("hex is asked for, in pairs of digits, or -"),

@@ -1,7 +1,9 @@
 //! Decimal numbers.
 ghost use mathlib.Core.Path.{_≡_};
-ghost use Prim.Native.Nat.{_+_, _*_, _^_, _<_};
+ghost use Prim.Native.Nat.{ℕ, _+_, _*_, _^_, _<_};
 ghost use Rattle.std.specs.Numbers.{Checked};
+ghost use Rattle.std.specs.Written.{decimal};
+ghost use Rattle.std.specs.declared.result.Result.the-variants.{Ok};
 ghost use Rattle.pack.specs.Numbers.{isNumeral, numberRead};
 use crate::order::error::Why;
 
@@ -23,9 +25,10 @@ fn with_digit(number: u64, digit: u8) -> Option<u64>
     number.checked_mul(10)?.checked_add(u64::from(digit))
 }
 
-/// The number that a word spells.
+/// The number that a word spells: of a number that was printed, that number.
 pub fn read_number(word: &[u8]) -> Result<u64, Why>
-    ensures { λ r. ⌜ r ≡ numberRead (now (word .entry)) ⌝ }
+    ensures value { λ r. ⌜ r ≡ numberRead (now (word .entry)) ⌝ }
+    ensures back { λ r. ⌜ ((n : ℕ) → n < 2 ^ 64 → now (word .entry) ≡ decimal n → r ≡ Ok n) ⌝ }
 {
     if !is_numeral(word) {
         return Err(Why::NotNumber);

@@ -5,6 +5,7 @@ ghost use lib.ListN.{length};
 ghost use Rattle.pack.specs.Texts.{isBlank, lengthBefore, runLength, lineIn, afterLine, uncommented, unblanked, wordIn, afterWord, atEnd, onlyWord, Reads};
 use crate::order::error::Why;
 
+// A carriage return is a blank, so that it may end a line.
 fn is_blank(byte: u8) -> bool
     ensures { λ r. ⌜ r ≡ isBlank byte ⌝ }
 {

@@ -25,7 +25,7 @@ loop-k-again c =
     let n = c .in-Continue-numbers .field-0 in
     let is = c .split-word .ensures .word in
     let some : isEmpty (wordIn rest) ≡ false = ap isEmpty (sym is) ∙ sym (c .if-is-empty .ensures tt) in
-    let read : numberRead (wordIn rest) ≡ Ok n = ap numberRead (sym is) ∙ sym (c .in-Continue-numbers .ensures tt) in
+    let read : numberRead (wordIn rest) ≡ Ok n = ap numberRead (sym is) ∙ sym (c .in-Continue-numbers .ensures tt .value) in
     let within : k < length old = omega (arith, c .loop-k .inv .0, c .loop-k-test .taken) in (
       length-set old k n ∙ c .loop-k .inv .0,
       c .loop-k .inv .1
@@ -47,7 +47,7 @@ returns-in-Break-numbers c =
     let rest = c .loop-k .rest .now in
     let is = c .split-word .ensures .word in
     let some : isEmpty (wordIn rest) ≡ false = ap isEmpty (sym is) ∙ sym (c .if-is-empty .ensures tt) in
-    let read : numberRead (wordIn rest) ≡ Err (c .in-Break-numbers .field-0 .0) = ap numberRead (sym is) ∙ sym (c .in-Break-numbers .ensures tt) in
+    let read : numberRead (wordIn rest) ≡ Err (c .in-Break-numbers .field-0 .0) = ap numberRead (sym is) ∙ sym (c .in-Break-numbers .ensures tt .value) in
     let p = err-from-errBy (c .from-residual .result) (c .from-residual .ensures .1) in
     rw (p .1, p .2)
     (sym (c .loop-k .inv .1 ∙ ap (prefixed (take k (c .loop-k .numbers))) (step k rest (c .loop-k-test .taken) some ∙ ap (λ r. consRead r (numbersIn (10 - (k + 1)) (afterWord rest))) read)))
