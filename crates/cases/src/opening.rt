@@ -19,7 +19,7 @@ fn told<'x>(nodes: &'x [u8], bytes: &'x [u8]) -> Told {
     }
 }
 
-pub fn numbers(heap: Global, text: &str) -> Result<Vec<u64>, Fail> {
+pub(crate) fn numbers(heap: Global, text: &str) -> Result<Vec<u64>, Fail> {
     let mut all = Vec::new(heap);
     for word in text.split_whitespace() {
         all.push(word.parse::<u64>()?)?;
@@ -43,7 +43,7 @@ fn node(n: &Vec<u64>) -> Result<Node, Fail> {
     })
 }
 
-pub fn nodes(heap: Global, text: &str) -> Result<Vec<u8>, Fail> {
+pub(crate) fn nodes(heap: Global, text: &str) -> Result<Vec<u8>, Fail> {
     let mut all = Vec::new(heap);
     for part in text.split(',') {
         all.extend_from_slice(&node(&numbers(heap, part)?)?.to_bytes())?;
@@ -51,7 +51,7 @@ pub fn nodes(heap: Global, text: &str) -> Result<Vec<u8>, Fail> {
     Ok(all)
 }
 
-pub fn bytes(heap: Global, text: &str) -> Result<Vec<u8>, Fail> {
+pub(crate) fn bytes(heap: Global, text: &str) -> Result<Vec<u8>, Fail> {
     let mut all = Vec::new(heap);
     for pair in text.split_whitespace() {
         all.push(u8::from_str_radix(pair, 16)?)?;

@@ -5,3 +5,4 @@ pub mod Items
 pub mod Orders
 pub mod Levels
 pub mod Shown
+pub mod Sentences

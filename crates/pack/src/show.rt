@@ -51,7 +51,7 @@ impl fmt::Display for NodeLine as NodeLineDisplay {
 }
 
 /// Opens a case, and prints its nodes or the rule that it breaks.
-pub fn show_case(rt: &LibcRuntime, case: &Case) -> io::Result<()> {
+pub(crate) fn show_case(rt: &LibcRuntime, case: &Case) -> io::Result<()> {
     show_name(rt, case)?;
     let mut recording = Recording::empty();
     match recording.open(&case.nodes, &case.bytes) {
