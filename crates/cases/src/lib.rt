@@ -1,4 +1,6 @@
 //! Worked cases: some derived from the definitions, the others run.
+#![tactic(auto)]
+
 ghost use Rattle.cases.specs.Openings.{Openings};
 
 #[cfg(test)]

@@ -1,5 +1,7 @@
 //! Laws of the definitions in `layout`, over every opened recording and every window inside a node's rows. Each stands as the contract of
 //! a function here; the functions themselves do nothing.
+#![tactic(auto)]
+
 ghost use Rattle.laws.specs.RoundTrip.{RoundTrip, ShowsValues, Heard};
 ghost use Rattle.laws.specs.NothingElse.{NothingElseCounts};
 ghost use Rattle.laws.specs.Equality.{Equality, ToldByShown};

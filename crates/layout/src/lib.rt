@@ -1,6 +1,8 @@
 //! What a recording is made of: nodes and their kinds, numbers and bits in bytes, and the refusals.
 //!
 //! `specs/` has the definitions that every crate shares, and `proofs/` their laws.
+#![tactic(auto)]
+
 mod bit;
 mod fault;
 mod kind;

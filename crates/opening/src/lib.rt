@@ -1,4 +1,6 @@
 //! Whether node bytes and bytes are a recording: the rules of an opening, checked node by node.
+#![tactic(auto)]
+
 mod ancestors;
 mod check;
 mod scan;

@@ -5,6 +5,8 @@
 //! - `nodes HEX` and `nodesfile PATH` append bytes to the table, `bytes HEX` and `bytesfile PATH` to the bytes.
 //!
 //! Blanks stand between words, and `#` starts a comment. Hex is in pairs of digits, and `-` is none.
+#![tactic(auto)]
+
 ghost use Rattle.std.specs.Prelude.{◌≡◌, [], ◌∷◌, ◌++◌, string_bytes};
 ghost use Rattle.std.specs.Option.{option_map};
 ghost use Rattle.orders.specs.Orders.{spelled, fresh, appended, cases_in, begun, grown, Makes, Follows, OrderRead};

@@ -1,4 +1,6 @@
 //! Opens the recordings that an order spells, and prints their trees or the rules that they break.
+#![tactic(auto)]
+
 mod sample;
 mod show;
 mod words;

@@ -2,6 +2,8 @@
 //!
 //! What an opened recording keeps is the ghost fact `opened` of `Recording`; its readers, and the crates above, look at
 //! nothing again.
+#![tactic(auto)]
+
 mod options;
 mod recording;
 mod window;

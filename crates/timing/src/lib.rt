@@ -1,4 +1,6 @@
 //! What `bench/` calls from C to time an opening and a count of bits beside plain C.
+#![tactic(auto)]
+
 ghost use Rattle.std.specs.Prelude.{◌≡◌};
 ghost use Rattle.timing.specs.Told.{Told};
 ghost use Rattle.timing.specs.Zeros.{zeros_from};

@@ -6,29 +6,29 @@ use Rattle.orders.proofs.read_order.Goals as goal
 pub loop-rest-init : goal.loop-rest-init
 loop-rest-init c = subst (Sofar c.args.text.now c.args.text.now 0) (sym (ap (map spelled) c.new-cases.ensures.items)) (none_yet c.args.text.now)
 
-pub overflow-add-line : goal.overflow-add-line
-overflow-add-line c =
+pub overflow_add-line : goal.overflow_add-line
+overflow_add-line c =
     let some = false-eqb (length c.loop-rest.rest.now) 0 c.loop-rest-test.ensures in
-    omega (arith, fits c.loop-rest.invariant (omega arith), c.well-formed)
+    omega (arith, fits c.loop-rest.invariant (omega arith), c.well_formed)
 
 pub returns-in-Err : goal.returns-in-Err
 returns-in-Err c =
     let rest = c.loop-rest.rest.now in
     let some = false-eqb (length rest) 0 c.loop-rest-test.ensures in
-    inl (first-bad c.loop-rest.invariant (omega arith) _ refl (subst (λ line. BadLine line c.in-Err.why) c.split-line.ensures.line c.in-Err.ensures))
+    inl (first-bad c.loop-rest.invariant (omega arith) _ refl (subst (λ line. BadLine line c.in-Err.why) c.split_line.ensures.line c.in-Err.ensures))
 
 pub loop-rest-smaller : goal.loop-rest-smaller
 loop-rest-smaller c =
     let rest = c.loop-rest.rest.now in
     let some = false-eqb (length rest) 0 c.loop-rest-test.ensures in
-    omega (arith, ap length c.split-line.ensures.rest, after_less rest (omega arith))
+    omega (arith, ap length c.split_line.ensures.rest, after_less rest (omega arith))
 
 pub loop-rest-preserved : goal.loop-rest-preserved
 loop-rest-preserved c =
     let rest = c.loop-rest.rest.now in
     let some = false-eqb (length rest) 0 c.loop-rest-test.ensures in
-    let done = subst (λ line. Followed line (cases_in c.loop-rest.cases) (cases_in c.follow.new.cases)) c.split-line.ensures.line c.in-default.ensures in
-    subst (λ r. Sofar c.args.text.now r (c.loop-rest.line + 1) (cases_in c.follow.new.cases)) (sym c.split-line.ensures.rest)
+    let done = subst (λ line. Followed line (cases_in c.loop-rest.cases) (cases_in c.follow.new.cases)) c.split_line.ensures.line c.in_default.ensures in
+    subst (λ r. Sofar c.args.text.now r (c.loop-rest.line + 1) (cases_in c.follow.new.cases)) (sym c.split_line.ensures.rest)
     (one_more c.loop-rest.invariant (omega arith) _ done)
 
 pub returns-in-Ok : goal.returns-in-Ok

@@ -12,4 +12,4 @@ returns c =
     let e =
     zeros_three c.args.bytes.now c.args.place c.args.first n front whole ((n - front) % 8) from (from + whole - from)
     (omega arith) (omega arith) (omega arith) (λ l. omega arith) (omega arith) in
-    omega (arith, c.count-zeros-by-bit.ensures.count, c.count-zeros-in-bytes.ensures.count, c.count-zeros-by-bit-2.ensures.count)
+    omega (arith, c.count_zeros_by_bit.ensures.count, c.count_zeros_in_bytes.ensures.count, c.count_zeros_by_bit-2.ensures.count)

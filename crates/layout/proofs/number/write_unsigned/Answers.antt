@@ -6,7 +6,7 @@ use Rattle.layout.proofs.number.write_unsigned.Goals as goal
 pub returns : goal.returns
 returns c =
     record {
-      after = c.write-low.ensures;
-      back = ap (λ (bs : List ℕ). unsigned_at bs c.args.place c.args.width) c.write-low.ensures
+      after = c.write_low.ensures;
+      back = ap (λ (bs : List ℕ). unsigned_at bs c.args.place c.args.width) c.write_low.ensures
           ∙ unsigned_put c.args.out.now c.args.place c.args.width c.args.value c.requires.within c.requires.fits;
     }

@@ -24,8 +24,8 @@ at-requires c =
     let is : Is n Dictionary = subst (λ (k : Kind). Is n k) c.in-Dictionary.is c.requires.ready.is in
     omega (arith, child_stands (nodes_of c.args.nodes.now) c.args.i c.requires.ready.nested Dictionary is (λ n f. f), length-nodes c.args.nodes.now)
 
-pub keys-name-rows-requires : goal.keys-name-rows-requires
-keys-name-rows-requires c =
+pub keys_name_rows-requires : goal.keys_name_rows-requires
+keys_name_rows-requires c =
     let bs = c.args.bytes.now in
     let n = node_at (nodes_of c.args.nodes.now) c.args.i in
     let ready = c.requires.ready in
@@ -45,7 +45,7 @@ pub returns-in-Dictionary : goal.returns-in-Dictionary
 returns-in-Dictionary c =
     let ns = nodes_of c.args.nodes.now in
     let bs = c.args.bytes.now in
-    c.keys-name-rows.ensures
+    c.keys_name_rows.ensures
     ∙ ap (λ (n : Node). keyed_below bs n c.at.result.rows) c.at-node.ensures
     ∙ ap (λ (n : Node). keyed_below bs (node_at ns c.args.i) n.rows) c.at.ensures
     ∙ ap (λ (k : Kind). keys_as k ns bs c.args.i) (sym c.in-Dictionary.is)

@@ -6,8 +6,8 @@ use Rattle.layout.specs.Rules.{Lies}
 use Rattle.layout.proofs.Facts.{offsets_lie}
 use Rattle.opening.proofs.check.keeps_offsets.Goals as goal
 
-pub offsets-rise-requires : goal.offsets-rise-requires
-offsets-rise-requires c =
+pub offsets_rise-requires : goal.offsets_rise-requires
+offsets_rise-requires c =
     let bs = c.args.bytes.now in
     let n = node_at (nodes_of c.args.nodes.now) c.args.i in
     let ready = c.requires.ready in

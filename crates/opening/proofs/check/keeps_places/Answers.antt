@@ -3,21 +3,21 @@ use Rattle.std.proofs.lemmas.Bool.{and_left, and_right}
 use Rattle.layout.specs.Tests.{slots_lie, bitmap_lies, data_lies, placed_as}
 use Rattle.opening.proofs.check.keeps_places.Goals as goal
 
-pub returns-then-not-slots-lie : goal.returns-then-not-slots-lie
+pub returns-then-not-slots_lie : goal.returns-then-not-slots_lie
 unfolding placed_as
-returns-then-not-slots-lie c =
-    sym (and_left (slots_lie c.args.kind c.args.node c.args.bytes.now) (bitmap_lies c.args.kind c.args.node c.args.bytes.now && data_lies c.args.kind c.args.node c.args.bytes.now) (sym c.if-not-slots-lie.ensures))
+returns-then-not-slots_lie c =
+    sym (and_left (slots_lie c.args.kind c.args.node c.args.bytes.now) (bitmap_lies c.args.kind c.args.node c.args.bytes.now && data_lies c.args.kind c.args.node c.args.bytes.now) (sym c.if-not-slots_lie.ensures))
 
-pub returns-then-bitmap-lies : goal.returns-then-bitmap-lies
+pub returns-then-bitmap_lies : goal.returns-then-bitmap_lies
 unfolding placed_as
-returns-then-bitmap-lies c =
-    let s = sym c.if-not-slots-lie.ensures in
-    let b = sym c.if-bitmap-lies.ensures in
+returns-then-bitmap_lies c =
+    let s = sym c.if-not-slots_lie.ensures in
+    let b = sym c.if-bitmap_lies.ensures in
     c.data_lies_lem.ensures ∙ rw (s, b)
 
-pub returns-else-bitmap-lies : goal.returns-else-bitmap-lies
+pub returns-else-bitmap_lies : goal.returns-else-bitmap_lies
 unfolding placed_as
-returns-else-bitmap-lies c =
-    let s = sym c.if-not-slots-lie.ensures in
-    let b = sym c.if-bitmap-lies.ensures in
-    c.if-bitmap-lies.false ∙ rw (s, b)
+returns-else-bitmap_lies c =
+    let s = sym c.if-not-slots_lie.ensures in
+    let b = sym c.if-bitmap_lies.ensures in
+    c.if-bitmap_lies.false ∙ rw (s, b)

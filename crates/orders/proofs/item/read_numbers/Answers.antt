@@ -16,43 +16,43 @@ loop-k-preserved c =
     let k = c.loop-k.k in
     let rest = c.loop-k.rest.now in
     let old = c.loop-k.numbers in
-    let n = c.in-ok-numbers.field-0 in
-    let is = c.split-word.ensures.word in
-    let some : is_empty (word_in rest) ≡ false = ap is_empty (sym is) ∙ sym c.if-is-empty.ensures in
-    let read : number_read (word_in rest) ≡ Ok n = ap number_read (sym is) ∙ sym c.in-ok-numbers.ensures.value in
+    let n = c.in_ok-numbers.field-0 in
+    let is = c.split_word.ensures.word in
+    let some : is_empty (word_in rest) ≡ false = ap is_empty (sym is) ∙ sym c.if-is_empty.ensures in
+    let read : number_read (word_in rest) ≡ Ok n = ap number_read (sym is) ∙ sym c.in_ok-numbers.ensures.value in
     let within : k < length old = omega (arith, c.loop-k.invariant.0, c.loop-k-test.true) in (
       length-set old k n ∙ c.loop-k.invariant.0,
       c.loop-k.invariant.1
           ∙ ap (prefixed (take k old)) (step k rest c.loop-k-test.true some ∙ ap (λ r. cons_read r (numbers_in (10 - (k + 1)) (after_word rest))) read)
           ∙ prefixed_cons (take k old) n (numbers_in (10 - (k + 1)) (after_word rest))
           ∙ ap (λ xs. prefixed xs (numbers_in (10 - (k + 1)) (after_word rest))) (sym (take_more_set old k n within))
-          ∙ ap (λ t. prefixed (take (k + 1) (set old k n)) (numbers_in (10 - (k + 1)) t)) (sym c.split-word.ensures.rest),
+          ∙ ap (λ t. prefixed (take (k + 1) (set old k n)) (numbers_in (10 - (k + 1)) t)) (sym c.split_word.ensures.rest),
     )
 
-pub returns-then-is-empty : goal.returns-then-is-empty
-returns-then-is-empty c =
+pub returns-then-is_empty : goal.returns-then-is_empty
+returns-then-is_empty c =
     let rest = c.loop-k.rest.now in
-    let none : is_empty (word_in rest) ≡ true = ap is_empty (sym c.split-word.ensures.word) ∙ sym c.if-is-empty.ensures in
+    let none : is_empty (word_in rest) ≡ true = ap is_empty (sym c.split_word.ensures.word) ∙ sym c.if-is_empty.ensures in
     sym (c.loop-k.invariant.1 ∙ ap (prefixed (take c.loop-k.k c.loop-k.numbers)) (missing c.loop-k.k rest c.loop-k-test.true none))
 
-pub returns-in-err-numbers : goal.returns-in-err-numbers
-returns-in-err-numbers c =
+pub returns-in_err-numbers : goal.returns-in_err-numbers
+returns-in_err-numbers c =
     let k = c.loop-k.k in
     let rest = c.loop-k.rest.now in
-    let is = c.split-word.ensures.word in
-    let some : is_empty (word_in rest) ≡ false = ap is_empty (sym is) ∙ sym c.if-is-empty.ensures in
-    let read : number_read (word_in rest) ≡ Err c.in-err-numbers.field-0.0 = ap number_read (sym is) ∙ sym c.in-err-numbers.ensures.value in
-    let p = err_from_is_err_and c.from-residual.result c.from-residual.ensures.1 in
+    let is = c.split_word.ensures.word in
+    let some : is_empty (word_in rest) ≡ false = ap is_empty (sym is) ∙ sym c.if-is_empty.ensures in
+    let read : number_read (word_in rest) ≡ Err c.in_err-numbers.field-0.0 = ap number_read (sym is) ∙ sym c.in_err-numbers.ensures.value in
+    let p = err_from_is_err_and c.from_residual.result c.from_residual.ensures.1 in
     rw (p.1, p.2)
     (sym (c.loop-k.invariant.1 ∙ ap (prefixed (take k c.loop-k.numbers)) (step k rest c.loop-k-test.true some ∙ ap (λ r. cons_read r (numbers_in (10 - (k + 1)) (after_word rest))) read)))
 
-pub returns-in-err-expect-end : goal.returns-in-err-expect-end
-returns-in-err-expect-end c =
+pub returns-in_err-expect_end : goal.returns-in_err-expect_end
+returns-in_err-expect_end c =
     let k = c.loop-k.k in
     let rest = c.loop-k.rest.now in
-    let p = err_from_is_err_and c.from-residual-in-err-expect-end.result c.from-residual-in-err-expect-end.ensures.1 in
+    let p = err_from_is_err_and c.from_residual-in_err-expect_end.result c.from_residual-in_err-expect_end.ensures.1 in
     rw (p.1, p.2)
-    (sym (c.loop-k.invariant.1 ∙ ap (prefixed (take k c.loop-k.numbers)) (ending k rest (omega arith) ∙ at_end_err rest tt [] _ (sym c.in-err-expect-end.ensures))))
+    (sym (c.loop-k.invariant.1 ∙ ap (prefixed (take k c.loop-k.numbers)) (ending k rest (omega arith) ∙ at_end_err rest tt [] _ (sym c.in_err-expect_end.ensures))))
 
 pub returns : goal.returns
 returns c =
@@ -60,5 +60,5 @@ returns c =
     let rest = c.loop-k.rest.now in
     let all = c.loop-k.numbers in
     sym
-    (c.loop-k.invariant.1 ∙ ap (prefixed (take k all)) (ending k rest (omega arith) ∙ at_end_ok rest tt [] _ (sym c.in-ok-expect-end.ensures))
+    (c.loop-k.invariant.1 ∙ ap (prefixed (take k all)) (ending k rest (omega arith) ∙ at_end_ok rest tt [] _ (sym c.in_ok-expect_end.ensures))
     ∙ ap (λ xs. Ok xs) (append-nil (take k all) ∙ take_all k all (omega (arith, c.loop-k.invariant.0))))

@@ -8,13 +8,13 @@ use Rattle.orders.proofs.number.is_numeral.Goals as goal
 pub loop-byte-preserved : goal.loop-byte-preserved
 loop-byte-preserved c =
     c.loop-byte.invariant ∙ at_drop_more all_ascii_digits c.args.word.now c.loop-byte.byte-index 0 c.loop-byte-test.true
-    ∙ ap (λ t. t && all_ascii_digits (drop (c.loop-byte.byte-index + 1) c.args.word.now)) (sym c.if-not-is-ascii-digit.ensures.value)
+    ∙ ap (λ t. t && all_ascii_digits (drop (c.loop-byte.byte-index + 1) c.args.word.now)) (sym c.if-not-is_ascii_digit.ensures.value)
 
-pub returns-then-not-is-ascii-digit : goal.returns-then-not-is-ascii-digit
-returns-then-not-is-ascii-digit c =
+pub returns-then-not-is_ascii_digit : goal.returns-then-not-is_ascii_digit
+returns-then-not-is_ascii_digit c =
     let none : all_ascii_digits c.args.word.now ≡ false =
     c.loop-byte.invariant ∙ at_drop_more all_ascii_digits c.args.word.now c.loop-byte.byte-index 0 c.loop-byte-test.true
-    ∙ ap (λ t. t && all_ascii_digits (drop (c.loop-byte.byte-index + 1) c.args.word.now)) (sym c.if-not-is-ascii-digit.ensures.value) in
+    ∙ ap (λ t. t && all_ascii_digits (drop (c.loop-byte.byte-index + 1) c.args.word.now)) (sym c.if-not-is_ascii_digit.ensures.value) in
     sym (and_right (ltb 0 (length c.args.word.now)) _ none)
 
 pub returns : goal.returns

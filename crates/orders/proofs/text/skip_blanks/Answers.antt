@@ -5,4 +5,4 @@ use Rattle.orders.proofs.text.skip_blanks.Goals as goal
 
 pub returns : goal.returns
 unfolding unblanked
-returns c = take_rest c.args.text.now c.run-length-start.result ∙ ap (λ n. drop n c.args.text.now) c.run-length-start.ensures.value
+returns c = take_rest c.args.text.now c.run_length-start.result ∙ ap (λ n. drop n c.args.text.now) c.run_length-start.ensures.value

@@ -10,14 +10,14 @@ pub loop-p-init : goal.loop-p-init
 loop-p-init t c =
     (omega arith, filled_le (nodes_in c.args.recording.now) c.args.start c.args.end c.requires.trees, c.requires.trees, c.requires.level)
 
-pub overflow-add-depth : goal.overflow-add-depth
-overflow-add-depth t c =
+pub overflow_add-depth : goal.overflow_add-depth
+overflow_add-depth t c =
     let rec = c.args.recording.now in
     let deep = (nesting (nodes_in rec) (bytes_in rec) rec.opened c.args.end c.requires.within c.loop-p.p c.loop-p-test.true).deep in
     omega (arith, deep, c.loop-p.invariant.3.depth c.loop-p-test.true)
 
-pub show-trees-requires : goal.show-trees-requires
-show-trees-requires t c =
+pub show_trees-requires : goal.show_trees-requires
+show_trees-requires t c =
     let ns = nodes_in c.args.recording.now in
     let p = c.loop-p.p in
     let first = filled_first ns p c.args.end c.loop-p.invariant.2 c.loop-p-test.true in

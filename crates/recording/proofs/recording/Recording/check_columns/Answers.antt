@@ -6,4 +6,4 @@ use Rattle.recording.proofs.recording.Recording.check_columns.Goals as goal
 pub loop-column-preserved : goal.loop-column-preserved
 loop-column-preserved c =
     column_next (nodes_of c.args.self.now.nodes.now) c.args.first c.args.rows c.loop-column.column c.loop-column.node c.end-node.result c.node.result
-    c.loop-column.invariant.0 (omega (arith, c.node-count.ensures.value, c.if-node-node-count.false)) c.node.ensures.value c.if-node-rows.false c.end-node.ensures.value c.loop-column.invariant.1
+    c.loop-column.invariant.0 (omega (arith, c.node_count.ensures.value, c.if-node-node_count.false)) c.node.ensures.value c.if-node-rows.false c.end-node.ensures.value c.loop-column.invariant.1

@@ -3,8 +3,8 @@ use Rattle.layout.specs.Nodes.{nodes_of}
 use Rattle.layout.proofs.Opening.{kept_none}
 use Rattle.recording.proofs.recording.Recording.empty.Goals as goal
 
-pub invariant-of-result : goal.invariant-of-result
-invariant-of-result c = (kept_none, tt)
+pub invariant_of-result : goal.invariant_of-result
+invariant_of-result c = (kept_none, tt)
 
 pub returns : goal.returns
 unfolding nodes_of

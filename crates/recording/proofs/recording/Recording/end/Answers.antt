@@ -5,8 +5,8 @@ use Rattle.layout.specs.Nodes.{nodes_of}
 use Rattle.layout.specs.Rules.{Filled}
 use Rattle.recording.proofs.recording.Recording.end.Goals as goal
 
-pub overflow-add-result : goal.overflow-add-result
-overflow-add-result c =
+pub overflow_add-result : goal.overflow_add-result
+overflow_add-result c =
     let n = c.node.ensures.rules Nesting in
     record { fits = omega (arith, n.within, c.args.self.now.opened.0, ap (λ (n : Node). n.span) c.node.ensures.value) }
 

@@ -13,20 +13,20 @@ unwrap-width-requires c =
     ap is_some c.of.ensures
     ∙ width_there (nodes_of c.args.self.now.nodes.now) c.args.self.now.bytes.now c.args.self.now.opened.1 c.args.i c.node-node.result c.node-node.ensures.value c.node-node.ensures.rules c.requires.is
 
-pub slot-place-requires : goal.slot-place-requires
-slot-place-requires c =
+pub slot_place-requires : goal.slot_place-requires
+slot_place-requires c =
     let t = slot_there (nodes_of c.args.self.now.nodes.now) c.args.self.now.bytes.now c.args.self.now.opened.1 c.args.i c.node-node.result c.node-node.ensures.value c.node-node.ensures.rules
     c.args.r (subst (λ (n : Node). c.args.r < n.rows) (sym c.node-node.ensures.value) c.requires.row) (inr c.requires.is) in
     record { row = t.row; place = t.place }
 
-pub read-unsigned-requires : goal.read-unsigned-requires
-read-unsigned-requires c =
+pub read_unsigned-requires : goal.read_unsigned-requires
+read_unsigned-requires c =
     let ns = nodes_of c.args.self.now.nodes.now in
     let bs = c.args.self.now.bytes.now in
     let t = slot_there ns bs c.args.self.now.opened.1 c.args.i c.node-node.result c.node-node.ensures.value c.node-node.ensures.rules
     c.args.r (subst (λ (n : Node). c.args.r < n.rows) (sym c.node-node.ensures.value) c.requires.row) (inr c.requires.is) in
     let size = width_size ns bs c.args.self.now.opened.1 c.args.i c.node-node.result c.node-node.ensures.value c.node-node.ensures.rules c.requires.is c.unwrap-width.result (sym c.of.ensures ∙ c.unwrap-width.ensures) in
-    omega (arith, t.ends, c.slot-place.ensures, size)
+    omega (arith, t.ends, c.slot_place.ensures, size)
 
 pub returns : goal.returns
 returns c =
@@ -34,8 +34,8 @@ returns c =
     let bs = c.args.self.now.bytes.now in
     let row = subst (λ (n : Node). c.args.r < n.rows) (sym c.node-node.ensures.value) c.requires.row in
     let size = width_size ns bs c.args.self.now.opened.1 c.args.i c.node-node.result c.node-node.ensures.value c.node-node.ensures.rules c.requires.is c.unwrap-width.result (sym c.of.ensures ∙ c.unwrap-width.ensures) in
-    let value = c.read-unsigned.ensures
-    ∙ ap (λ (p : ℕ). unsigned_at bs p c.unwrap-width.result) c.slot-place.ensures
+    let value = c.read_unsigned.ensures
+    ∙ ap (λ (p : ℕ). unsigned_at bs p c.unwrap-width.result) c.slot_place.ensures
     ∙ ap (λ (w : ℕ). unle (cut (c.node-node.result.slots + (c.node-node.result.from + c.args.r) * c.node-node.result.size) w bs)) (sym size)
     ∙ ap (λ (n : Node). unle (key_at bs n c.args.r)) c.node-node.ensures.value in
     record {
