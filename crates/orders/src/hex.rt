@@ -53,7 +53,7 @@ pub fn read_hex(heap: Global, text: &[u8]) -> Result<Vec<u8>, Why>
     if word.is_empty() {
         return Err(Why::MissingWord);
     }
-    if word == b"-" {
+    if word == b"-".as_slice() {
         expect_end(rest)?;
         return Ok(Vec::new(heap));
     }

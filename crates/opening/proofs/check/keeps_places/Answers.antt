@@ -13,7 +13,7 @@ unfolding placed_as
 returns-then-bitmap_lies c =
     let s = sym c.if-not-slots_lie.ensures in
     let b = sym c.if-bitmap_lies.ensures in
-    c.data_lies_lem.ensures ∙ rw (s, b)
+    c.data_lies.ensures ∙ rw (s, b)
 
 pub returns-else-bitmap_lies : goal.returns-else-bitmap_lies
 unfolding placed_as

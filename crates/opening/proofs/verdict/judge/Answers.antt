@@ -35,7 +35,7 @@ overflow_add-i c =
     record { fits = omega (arith, n.within, length-nodes c.args.nodes.now, ap (λ (n : Node). n.span) c.at.ensures) }
 
 -- node i was checked, so its depth is at most 64
-room : (c : goal.After-struct-known·1) → c.leave.new.self.count < 64
+room : (c : goal.After-struct_known-1) → c.leave.new.self.count < 64
 room c =
     let ns = nodes_of c.args.nodes.now in
     let n = tells ns c.args.bytes.now c.loop-i.i Nesting (c.in_default.ensures Nesting) in
