@@ -13,7 +13,7 @@ use Rattle.layout.specs.Numbers.{wide}
 use Rattle.layout.specs.Rows.{offset_at, count_at}
 use Rattle.layout.specs.Rules.{Is, Lies, Rule, Rising, reach, ChildrenFit}
 use Rattle.layout.specs.Opening.{Kept}
-use Rattle.layout.specs.Trees.{Tree, trees_in, tree_at}
+use Rattle.layout.specs.Trees.{Tree, trees_in, tree_at, tree_as}
 use Rattle.layout.specs.Messages.{null_count, own_field}
 use Rattle.layout.specs.Windows.{marks_at, shown}
 use Rattle.layout.proofs.Opening.{kept_rule}
@@ -31,7 +31,7 @@ module _ (ns : List Node) (bs : List ℕ) (kept : Kept ns bs) (i : ℕ) (l : i <
   rule : (q : Refusal) → Rule q ns bs i
   rule = kept_rule ns bs kept i l
 
-  tree_of : (k : Kind) → Is n k → tree_at ns i ≡ _
+  tree_of : (k : Kind) → Is n k → tree_at ns i ≡ tree_as (Some k) n (trees_in ns (i + 1) (end_of ns i))
   tree_of k is = tree_as_lem n (trees_in ns (i + 1) (end_of ns i)) k is
 
   -- ---- nulls

@@ -4,7 +4,7 @@ use Rattle.layout.proofs.Opening.{kept_none}
 use Rattle.recording.proofs.recording.Recording.empty.Goals as goal
 
 pub invariant_of-result : goal.invariant_of-result
-invariant_of-result c = (kept_none, tt)
+invariant_of-result c = record { opened = kept_none }
 
 pub returns : goal.returns
 unfolding nodes_of

@@ -7,7 +7,7 @@ pub count_zeros-requires : goal.count_zeros-requires
 count_zeros-requires c =
     let f = few (nodes_of c.args.self.now.nodes.now) c.args.self.now.bytes.now c.args.self.now.opened.1 c.args.i c.node-node.result c.node-node.ensures.value c.node-node.ensures.rules in (
       omega arith,
-      bitmap_lies (nodes_of c.args.self.now.nodes.now) c.args.self.now.bytes.now c.args.self.now.opened.1 c.args.i c.node-node.result c.node-node.ensures.value c.node-node.ensures.rules
+      bitmap-lies (nodes_of c.args.self.now.nodes.now) c.args.self.now.bytes.now c.args.self.now.opened.1 c.args.i c.node-node.result c.node-node.ensures.value c.node-node.ensures.rules
           c.kind.result c.in-Some.place c.kind.ensures c.if-not-has_bitmap.ensures c.in-Some.ensures,
     )
 

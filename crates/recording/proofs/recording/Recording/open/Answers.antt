@@ -5,7 +5,7 @@ use Rattle.layout.proofs.Opening.{sound_kept, answers}
 use Rattle.recording.proofs.recording.Recording.open.Goals as goal
 
 pub invariant_of-self : goal.invariant_of-self
-invariant_of-self c = (sound_kept c.args.nodes.now c.args.bytes.now c.in_ok-judge.ensures, tt)
+invariant_of-self c = record { opened = sound_kept c.args.nodes.now c.args.bytes.now c.in_ok-judge.ensures }
 
 pub returns-in_err-judge : goal.returns-in_err-judge
 returns-in_err-judge c =
