@@ -1,5 +1,5 @@
 -- What an opened recording tells of windows and rows.
-use Rattle.std.proofs.Common.{◌≡◌, ℕ, ◌+◌, ◌-◌, ◌*◌, ◌/◌, ◌<◌, ◌≤◌, Bool, true, false, List, length, Some, None, Option, sym, refl, ap, ◌∙◌, subst, arith}
+use Rattle.std.proofs.Common.{◌≡◌, ℕ, ◌+◌, ◌-◌, ◌*◌, ◌/◌, ◌<◌, ◌≤◌, Bool, true, false, List, length, Some, None, Option, sym, refl, ap, ap₂, ◌∙◌, subst, arith}
 use Rattle.layout.specs.declared.fault.Refusal.{Refusal}
 use Rattle.layout.specs.declared.fault.Refusal.TheVariants.{KindOrSize, Nesting, Place, Offset, Key}
 use Rattle.layout.specs.declared.kind.Kind.{Kind}
@@ -7,10 +7,11 @@ use Rattle.layout.specs.declared.kind.Kind.TheVariants.{Null, Boolean, Fixed, By
 use Rattle.layout.specs.declared.node.Node.{Node}
 use Rattle.layout.specs.declared.number.Width.{Width}
 use Rattle.layout.specs.Bits.{bytes_for}
+use Rattle.layout.specs.Lists.{cut}
 use Rattle.layout.specs.Kinds.{offset_width, has_data, has_bitmap}
 use Rattle.layout.specs.Nodes.{node_at, end_of, bitmap_of}
 use Rattle.layout.specs.Numbers.{wide}
-use Rattle.layout.specs.Rows.{offset_at, count_at}
+use Rattle.layout.specs.Rows.{offset_at, count_at, string_at}
 use Rattle.layout.specs.Rules.{Is, Lies, Rule, Rising, reach, ChildrenFit}
 use Rattle.layout.specs.Opening.{Kept}
 use Rattle.layout.specs.Trees.{Tree, trees_in, tree_at, tree_as}
@@ -96,6 +97,27 @@ module _ (ns : List Node) (bs : List ℕ) (kept : Kept ns bs) (i : ℕ) (l : i <
 
   pub data_lies_lem : (k : Kind) → Is n k → has_data k ≡ true → n.«data» + n.extent ≤ length bs
   data_lies_lem k is d = (rule Place).strings k is d
+
+  -- the data of a row, from its offset x to its end y, lie within the bytes
+  pub record StringLies (m : Node) (x y : ℕ) : Type 0 where
+    pub ordered : x ≤ y
+    pub within : m.«data» + y ≤ length bs
+
+  pub string_lies : (k : Kind) (w : Width) (r : ℕ) → Is n k → offset_width k ≡ Some w → has_data k ≡ true → r < n.rows
+      → (m : Node) (x y : ℕ) → m ≡ n → x ≡ offset_at bs (wide w) n r → y ≡ offset_at bs (wide w) n (r + 1) → StringLies m x y
+  string_lies k w r is e d h m x y same start end =
+      let b = string_between k w r is e d h in
+      let l = data_lies_lem k is d in
+      let q : m.«data» ≡ n.«data» = ap (λ (n : Node). n.«data») same in
+      record { ordered = omega (arith, b.rises); within = omega (arith, b.ends, l) }
+
+  -- and they are the row's byte string
+  pub string_cut : (w r : ℕ) (m : Node) (x y : ℕ) → m ≡ n → x ≡ offset_at bs w n r → y ≡ offset_at bs w n (r + 1) → cut (m.«data» + x) (m.«data» + y - (m.«data» + x)) bs ≡ string_at bs w n r
+  string_cut w r m x y same start end =
+      let q : m.«data» ≡ n.«data» = ap (λ (n : Node). n.«data») same in
+      let p : m.«data» + x ≡ n.«data» + offset_at bs w n r = omega arith in
+      let c : m.«data» + y - (m.«data» + x) ≡ count_at bs w n r = omega arith in
+      ap₂ (λ (p c : ℕ). cut p c bs) p c
 
   -- an offset width without data is a List's
   listed : (k : Kind) (w : Width) → offset_width k ≡ Some w → has_data k ≡ false → (reach k ns i ≡ (node_at ns (i + 1)).rows) × ((c : ℕ) → ChildrenFit k c → c ≡ 1)
