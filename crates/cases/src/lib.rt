@@ -4,7 +4,7 @@
 ghost use Rattle.cases.specs.Openings.{Openings};
 
 #[cfg(test)]
-mod opening;
+mod openings;
 #[cfg(test)]
 mod options;
 #[cfg(test)]

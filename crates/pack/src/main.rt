@@ -8,6 +8,7 @@ mod words;
 use orders::{Case, OrderError, read_order};
 use sample::SAMPLE;
 use show::show_case;
+use std::process::ExitCode;
 use std::{env, fmt, fs, io};
 
 /// Why the program gives no answer, or not the whole of it.
@@ -30,13 +31,15 @@ impl fmt::Display for Failure {
     }
 }
 
-fn main(rt: HostRuntime) -> Result<(), Failure> {
-    let result = run(&rt);
-    if let Err(failure) = &result {
-        // Where the words cannot be written either, the status still says it.
-        let _ = eprintln!(rt; "{failure}");
+fn main(rt: HostRuntime) -> ExitCode {
+    match run(&rt) {
+        Ok(()) => ExitCode::SUCCESS,
+        Err(failure) => {
+            // Where the words cannot be written either, the status still says it.
+            let _ = eprintln!(rt; "{failure}");
+            ExitCode::FAILURE
+        }
     }
-    result
 }
 
 // The whole order is read before its first case is opened, so that a bad order prints no answer.

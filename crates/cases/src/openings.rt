@@ -64,12 +64,13 @@ fn line_holds(rt: &impl Abort, heap: Global, line: &str) -> Result<(), Fail> {
     let (answer, recording) = line.split_once('|').ok_or("no answer")?;
     let (table, run) = recording.split_once('|').ok_or("no bytes")?;
     let expected = numbers(heap, answer)?;
-    assert!(rt; expected.len() == 2);
+    assert!(rt; expected.len() == 2, "{line}");
     let nodes = nodes(rt, heap, table)?;
     let bytes = bytes(heap, run)?;
     assert_eq!(rt;
         told(nodes.as_slice(), bytes.as_slice()),
-        (expected[0], expected[1])
+        (expected[0], expected[1]),
+        "{line}"
     );
     Ok(())
 }
@@ -78,7 +79,7 @@ fn line_holds(rt: &impl Abort, heap: Global, line: &str) -> Result<(), Fail> {
 fn table(rt: HostRuntime) -> Result<(), Fail> {
     for line in TABLE.lines() {
         if !line.starts_with('#') {
-            line_holds(&rt, rt.alloc(), line).note(line)?;
+            line_holds(&rt, rt.alloc(), line)?;
         }
     }
     Ok(())
