@@ -1,9 +1,9 @@
 -- Bits and little-endian numbers.
-use Rattle.std.proofs.Common.{◌≡◌, ℕ, zero, suc, ◌+◌, ◌-◌, ◌*◌, ◌/◌, ◌%◌, ◌^◌, ◌<◌, ◌≤◌, Bool, true, false, cond, eqb, ltb, List, [], ◌∷◌, ◌++◌, map, length, get_or, take, drop, sym, refl, ap, ◌∙◌, subst, ap₂, le_of_suc-le-suc, not-suc-le-zero, pow-suc, arith, length-append, length-take, get_or-drop, get_or-take}
+use Rattle.std.proofs.Common.{◌≡◌, ℕ, zero, suc, ◌+◌, ◌*◌, ◌/◌, ◌%◌, ◌^◌, ◌<◌, ◌≤◌, Bool, true, false, cond, List, [], ◌∷◌, map, length, get_or, drop, refl, ap, ◌∙◌, le_of_suc-le-suc, not-suc-le-zero, arith, get_or-drop, get_or-take}
 use native.Mathlib.Nat.{pow-succ', pow-le-pow_right, div-div-eq-div-mul, zero-div}
 use lib.ListN.{length-map}
 use Rattle.std.proofs.lemmas.Bool.{eq-eqb, ne_eqb, lt-ltb, ltb-true}
-use Rattle.layout.specs.Lists.{rows, cut}
+use Rattle.layout.specs.Lists.{cut}
 use Rattle.layout.specs.Numbers.{le, unle, le_all, natural, number}
 use Rattle.layout.specs.Bits.{byte_of, bytes_for, pack, bit_of, bit_at, zeros}
 use Rattle.laws.proofs.Good.{Each}

@@ -1,10 +1,10 @@
 -- The buffers stand end to end, each padded to the alignment.
-use Rattle.std.proofs.Common.{◌≡◌, ℕ, zero, suc, ◌+◌, ◌-◌, ◌*◌, ◌/◌, ◌%◌, ◌<◌, ◌≤◌, ◌⊎◌, List, [], ◌∷◌, ◌++◌, map, length, get_or, take, replicate, sym, refl, ap, ◌∙◌, subst, ap₂, inl, inr, le_of_suc-le-suc, not-suc-le-zero, mod-lt, mod-eq_of_lt, arith, length-append}
-use native.Mathlib.Nat.{mod_self, div-add-mod, mul-mod_right, add-mod_right, mod-add-mod}
+use Rattle.std.proofs.Common.{◌≡◌, ℕ, zero, suc, ◌+◌, ◌-◌, ◌*◌, ◌/◌, ◌%◌, ◌<◌, ◌≤◌, ◌⊎◌, List, [], ◌∷◌, map, length, get_or, take, refl, ap, ◌∙◌, inl, inr, le_of_suc-le-suc, not-suc-le-zero, mod-lt, mod-eq_of_lt, arith, length-append}
+use native.Mathlib.Nat.{mod_self, div-add-mod, mul-mod_right, add-mod_right}
 use lib.ListN.{length-replicate}
 use Rattle.layout.specs.Lists.{total}
 use Rattle.laws.specs.Sizes.{padded_lengths, EndToEnd, Padded}
-use Rattle.layout.specs.Messages.{BufferRecord, padding, padded, records, body}
+use Rattle.layout.specs.Messages.{BufferRecord, padded, records, body}
 
 lengths_are : (al at : ℕ) (bs : List (List ℕ)) → map (λ (r : BufferRecord). r.length) (records al at bs) ≡ map length bs
 lengths_are al at [] = refl

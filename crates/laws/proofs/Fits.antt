@@ -1,6 +1,6 @@
 -- How large the numbers of a message are.
-use Rattle.std.proofs.Common.{◌≡◌, ℕ, zero, suc, ◌+◌, ◌-◌, ◌*◌, ◌^◌, ◌<◌, ◌≤◌, Bool, true, false, ◌⊎◌, List, [], ◌∷◌, ◌++◌, map, length, take, drop, Some, None, Option, sym, refl, ap, ◌∙◌, subst, ap₂, inl, inr, suc-mul, arith, length-append, length-drop, length-take}
-use lib.ListN.{length-replicate, length-map}
+use Rattle.std.proofs.Common.{◌≡◌, ℕ, zero, suc, ◌+◌, ◌-◌, ◌*◌, ◌^◌, ◌<◌, ◌≤◌, Bool, true, false, List, [], ◌∷◌, ◌++◌, length, drop, Some, None, Option, sym, refl, ap, ◌∙◌, subst, ap₂, inl, inr, suc-mul, arith, length-append}
+use lib.ListN.{length-replicate}
 use Rattle.std.proofs.lemmas.Nat.{mul-le}
 use Rattle.std.proofs.lemmas.Bool.{cases_lt}
 use Rattle.layout.specs.declared.kind.Kind.{Kind}
@@ -8,21 +8,20 @@ use Rattle.layout.specs.declared.kind.Kind.TheVariants.{Null, Boolean, Fixed, By
 use Rattle.layout.specs.declared.node.Node.{Node}
 use Rattle.layout.specs.Lists.{rows, total, lengths}
 use Rattle.layout.specs.Bits.{bit_at, zeros}
-use Rattle.layout.specs.Kinds.{kind_of}
 use Rattle.layout.specs.Nodes.{node_at, end_of, bitmap_of}
 use Rattle.layout.specs.Rows.{slot_at, count_at, string_at, key_at}
 use Rattle.layout.specs.declared.fault.Refusal.TheVariants.{KindOrSize, Nesting}
 use Rattle.layout.specs.Opening.{Kept}
 use Rattle.layout.specs.Rules.{Is, SideBySide, Filled, ChildrenFit}
-use Rattle.layout.specs.Trees.{Tree, Forest, root_of, rows_of, child_of, tree_as, tree_of, forest_by, trees_in, tree_at}
-use Rattle.layout.specs.Shown.{Marks, Shown, Showns, nulls, bools, fixed, bytes, lists, struct, dictionary, none, more}
-use Rattle.layout.specs.Messages.{FieldRecord, BufferRecord, null_count, field_of, fields, fields_all, buffers, buffers_all, made, made_all, padding, padded, records, body, records_of, body_of, work_bytes}
-use Rattle.layout.specs.Windows.{bits_at, marks_in, marks_at, passed_first, passed_count, shown, shown_all, Window, Inside, EachInside, columns_of, tree_in, shown_in, shown_side}
+use Rattle.layout.specs.Trees.{Tree, Forest, rows_of, child_of, tree_as, trees_in, tree_at}
+use Rattle.layout.specs.Shown.{Shown, Showns, nulls, bools, fixed, bytes, lists, struct, dictionary, none, more}
+use Rattle.layout.specs.Messages.{FieldRecord, null_count, fields, fields_all, buffers, buffers_all, made, made_all, padded, records, body, body_of}
+use Rattle.layout.specs.Windows.{marks_in, marks_at, passed_first, passed_count, shown, shown_all, Window, EachInside, columns_of, tree_in, shown_in, shown_side}
 use Rattle.layout.proofs.Lists.{length-rows}
 use Rattle.layout.proofs.Opening.{kept_rule}
-use Rattle.layout.proofs.Kids.{filled_first, First}
-use Rattle.laws.specs.Sizes.{FieldsFit, BuffersFit, NumbersFit, EndToEnd, Padded, Sizes}
-use Rattle.laws.proofs.Opened.{Based, RowsAll, Opened, OpenedAll}
+use Rattle.layout.proofs.Kids.{filled_first}
+use Rattle.laws.specs.Sizes.{FieldsFit, BuffersFit, NumbersFit, Sizes}
+use Rattle.laws.proofs.Opened.{RowsAll, Opened, OpenedAll}
 use Rattle.laws.proofs.Good.{AtMost}
 use Rattle.laws.proofs.Ends.{end_to_end_lem, paddings}
 use Rattle.laws.proofs.Kept.{one_is}

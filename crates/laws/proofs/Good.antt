@@ -1,7 +1,7 @@
 -- What is asked of what is shown, so that it reads back; every window of an opened recording has it.
 use Rattle.std.proofs.Common.{◌≡◌, ℕ, ◌*◌, ◌^◌, ◌<◌, ◌≤◌, List, [], ◌∷◌, length}
 use Rattle.layout.specs.Lists.{total, lengths}
-use Rattle.layout.specs.Shown.{Bits, Marks, all, some, Shown, Showns, nulls, bools, fixed, bytes, lists, struct, dictionary, none, more}
+use Rattle.layout.specs.Shown.{Marks, all, some, Shown, Showns, nulls, bools, fixed, bytes, lists, struct, dictionary, none, more}
 
 abbrev pub Marked : Marks → ℕ → Type 0
 Marked all n = Unit {0}

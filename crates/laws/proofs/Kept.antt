@@ -1,5 +1,5 @@
 -- The rules that hold node by node in an opened recording hold tree by tree.
-use Rattle.std.proofs.Common.{◌≡◌, ℕ, zero, suc, ◌+◌, ◌-◌, ◌<◌, ◌≤◌, true, ◌⊎◌, List, [], ◌∷◌, length, Some, None, Option, sym, refl, ap, ◌∙◌, subst, inl, inr, arith}
+use Rattle.std.proofs.Common.{◌≡◌, ℕ, zero, suc, ◌+◌, ◌-◌, ◌<◌, ◌≤◌, true, List, [], ◌∷◌, length, Some, sym, refl, ap, ◌∙◌, subst, inl, inr, arith}
 use Rattle.std.proofs.lemmas.Bool.{cases_lt}
 use Rattle.layout.specs.declared.fault.Refusal.{Refusal}
 use Rattle.layout.specs.declared.fault.Refusal.TheVariants.{KindOrSize, Nesting, Place, Offset, Key}
@@ -9,13 +9,13 @@ use Rattle.layout.specs.declared.node.Node.{Node}
 use Rattle.layout.specs.declared.number.Width.TheVariants.{Four, Eight}
 use Rattle.layout.specs.Kinds.{has_bitmap}
 use Rattle.layout.specs.Nodes.{node_at, end_of}
-use Rattle.layout.specs.Rules.{Is, Tabled, Nested, Placed, Rising, Keyed, Rule, SideBySide, Filled, AllRows, ChildrenFit}
+use Rattle.layout.specs.Rules.{Is, Rising, Keyed, Rule, SideBySide, Filled, AllRows, ChildrenFit}
 use Rattle.layout.specs.Opening.{Kept}
-use Rattle.layout.specs.Trees.{Tree, Forest, none, more, root_of, rows_of, child_of, tree_as, tree_of, trees_in, tree_at}
+use Rattle.layout.specs.Trees.{Tree, Forest, none, more, rows_of, child_of, tree_as, trees_in, tree_at}
 use Rattle.layout.proofs.Opening.{kept_rule}
-use Rattle.layout.proofs.Kids.{side_le, one_child, filled_first, First}
+use Rattle.layout.proofs.Kids.{side_le, one_child, filled_first}
 use Rattle.layout.proofs.Facts.{bits_lie, fixed_lie, keys_lie, offsets_lie}
-use Rattle.laws.proofs.Opened.{Based, RowsAll, Own, Opened, OpenedAll}
+use Rattle.laws.proofs.Opened.{Based, RowsAll, Opened, OpenedAll}
 use Rattle.laws.proofs.Table.{at_none, at_more, tree_as_lem, root_is}
 
 -- the rows of the tree at a node are the node's

@@ -1,7 +1,6 @@
 -- Rows, parts and running sums.
-use Rattle.std.proofs.Common.{◌≡◌, ℕ, zero, suc, ◌+◌, ◌-◌, ◌*◌, ◌<◌, ◌≤◌, List, [], ◌∷◌, ◌++◌, map, length, get_or, take, drop, replicate, sym, refl, ap, ◌∙◌, subst, ap₂, append_assoc, le_of_suc-le-suc, not-suc-le-zero, suc-mul, zero-mul, arith, length-append, length-drop, length-take-le, drop-drop, take-add}
+use Rattle.std.proofs.Common.{◌≡◌, ℕ, zero, suc, ◌+◌, ◌-◌, ◌*◌, ◌<◌, ◌≤◌, List, [], ◌∷◌, ◌++◌, map, length, get_or, take, drop, sym, refl, ap, ◌∙◌, ap₂, le_of_suc-le-suc, not-suc-le-zero, suc-mul, zero-mul, arith, drop-drop, take-add}
 use native.Mathlib.Nat.{sub_self}
-use lib.ListN.{length-map}
 use lib.Seq.{take-append_seam, drop-append-add}
 use Rattle.layout.specs.Lists.{rows, cut, join_all, total}
 use Rattle.layout.proofs.Lists.{rows_same}

@@ -1,5 +1,5 @@
 -- What the rules of an opening say of a tree: of its node, and of all nodes below.
-use Rattle.std.proofs.Common.{◌≡◌, ℕ, ◌+◌, ◌*◌, ◌<◌, ◌≤◌, List, [], ◌∷◌, length, Some}
+use Rattle.std.proofs.Common.{◌≡◌, ℕ, ◌+◌, ◌*◌, ◌≤◌, List, Some}
 use Rattle.layout.specs.declared.node.Node.{Node}
 use Rattle.layout.specs.Bits.{bytes_for}
 use Rattle.layout.specs.Nodes.{bitmap_of}

@@ -1,6 +1,6 @@
 -- The windows that a window passes, by node numbers.
-use Rattle.std.proofs.Common.{◌≡◌, ℕ, zero, suc, ◌+◌, ◌-◌, ◌<◌, ◌≤◌, List, [], ◌∷◌, map, length, Some, sym, refl, ap, ◌∙◌, subst, ap₂, arith}
-use Rattle.layout.specs.declared.fault.Refusal.TheVariants.{KindOrSize, Nesting, Offset}
+use Rattle.std.proofs.Common.{◌≡◌, ℕ, ◌+◌, ◌<◌, ◌≤◌, List, [], ◌∷◌, map, length, Some, sym, refl, ap, ◌∙◌, subst, ap₂, arith}
+use Rattle.layout.specs.declared.fault.Refusal.TheVariants.{Nesting, Offset}
 use Rattle.layout.specs.declared.kind.Kind.{Kind}
 use Rattle.layout.specs.declared.kind.Kind.TheVariants.{Null, Boolean, Fixed, Bytes32, Bytes64, List32, List64, Struct, Dictionary}
 use Rattle.layout.specs.declared.node.Node.{Node}
@@ -9,7 +9,7 @@ use Rattle.layout.specs.Lists.{rows}
 use Rattle.layout.specs.Nodes.{node_at, end_of}
 use Rattle.layout.specs.Rows.{count_at, key_at}
 use Rattle.layout.specs.Rules.{Is, SideBySide, Filled, AllRows, Nested, ChildrenFit, Rising}
-use Rattle.layout.specs.Trees.{Tree, Forest, none, more, rows_of, child_of, tree_as, trees_in, tree_at}
+use Rattle.layout.specs.Trees.{Tree, Forest, child_of, tree_as, trees_in, tree_at}
 use Rattle.layout.specs.Shown.{Shown, Showns}
 use Rattle.layout.specs.Windows.{marks_at, label_of, passed_first, passed_count, shown, shown_all, Window, Inside, tree_in, top_in, shown_in, shown_side, passed_to, ChildOf}
 use Rattle.layout.proofs.Opening.{kept_rule}

@@ -1,17 +1,15 @@
 -- What is made and what is copied, by its places.
-use Rattle.std.proofs.Common.{◌≡◌, ℕ, zero, suc, ◌+◌, ◌-◌, ◌*◌, ◌/◌, ◌%◌, ◌^◌, ◌<◌, ◌≤◌, Bool, true, false, cond, eqb, ltb, ◌⊎◌, List, [], ◌∷◌, ◌++◌, map, length, get_or, take, drop, sym, refl, ap, ◌∙◌, subst, ap₂, inl, inr, le_of_suc-le-suc, not-suc-le-zero, add-zero, suc-mul, pow-suc, arith, length-append, get_or-drop, get_or-take}
-use native.Mathlib.Nat.{pow-succ', div-div-eq-div-mul, zero-div, sub_self}
-use lib.ListN.{get_or-eq_default}
+use Rattle.std.proofs.Common.{◌≡◌, ℕ, zero, suc, ◌+◌, ◌-◌, ◌*◌, ◌/◌, ◌%◌, ◌^◌, ◌<◌, ◌≤◌, Bool, true, false, cond, eqb, ◌⊎◌, List, [], ◌∷◌, ◌++◌, length, get_or, drop, sym, refl, ap, ◌∙◌, ap₂, inl, inr, le_of_suc-le-suc, not-suc-le-zero, add-zero, suc-mul, pow-suc, arith, length-append, get_or-drop, get_or-take}
+use native.Mathlib.Nat.{pow-succ', div-div-eq-div-mul, zero-div}
 use Rattle.std.proofs.lemmas.Bool.{eq-eqb, ne_eqb}
 use Rattle.layout.specs.declared.node.Node.{Node}
-use Rattle.layout.specs.Lists.{rows, cut, join_all, total}
+use Rattle.layout.specs.Lists.{rows, cut, join_all}
 use Rattle.layout.specs.Bits.{byte_of, bytes_for, pack, bit_of, bit_at}
 use Rattle.layout.specs.Rows.{slot_at, offset_at, count_at, string_at}
 use Rattle.layout.specs.Windows.{bits_at}
 use Rattle.layout.specs.Rules.{Rising}
-use Rattle.laws.specs.Places.{Below, BitsMade, Copied, Places}
-use Rattle.layout.specs.Shown.{Bits}
-use Rattle.layout.specs.Messages.{bit_bytes, offsets}
+use Rattle.laws.specs.Places.{Below, BitsMade, Places}
+use Rattle.layout.specs.Messages.{offsets}
 use mir.Val.{bool_byte}
 use Rattle.layout.proofs.Lists.{rows_same, get_or_rows, length-rows, length_cut}
 use Rattle.laws.proofs.Lists.{cut-rows, rows_add, rows_get_or, join_cuts}

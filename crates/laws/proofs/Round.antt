@@ -1,14 +1,13 @@
 -- What is sent reads back.
-use Rattle.std.proofs.Common.{◌≡◌, ℕ, zero, suc, ◌+◌, ◌-◌, ◌*◌, ◌/◌, ◌%◌, ◌^◌, ◌<◌, ◌≤◌, Bool, true, false, cond, eqb, List, [], ◌∷◌, ◌++◌, map, length, get_or, take, drop, replicate, sym, refl, ap, ◌∙◌, subst, ap₂, append_assoc, append-nil, le_of_suc-le-suc, not-suc-le-zero, add-one, arith, length-append}
+use Rattle.std.proofs.Common.{◌≡◌, ℕ, zero, suc, ◌+◌, ◌*◌, ◌^◌, ◌<◌, ◌≤◌, Bool, true, false, cond, eqb, List, [], ◌∷◌, ◌++◌, map, length, get_or, take, sym, refl, ap, ◌∙◌, ap₂, append_assoc, append-nil, le_of_suc-le-suc, not-suc-le-zero, add-one, arith, length-append}
 use lib.ListN.{length-map, get_or-map}
 use Rattle.std.proofs.lemmas.Bool.{eqb-true, ne_eqb}
-use Rattle.layout.specs.Lists.{rows, cut, join_all, total, lengths}
-use Rattle.layout.specs.Numbers.{le_all, number}
-use Rattle.layout.specs.Bits.{bytes_for, pack, bit_at, zeros}
-use Rattle.laws.proofs.Good.{Marked, Each, Good, GoodAll}
-use Rattle.layout.specs.Shown.{Bits, Marks, all, some, Shown, Showns, nulls, bools, fixed, bytes, lists, struct, dictionary, none, more, Value, Values, null, held, marked, column, across, named, values, values_all, met, met_all, Shape, Shapes, shape, shapes}
-use Rattle.layout.specs.Messages.{FieldRecord, BufferRecord, bit_bytes, mark_bytes, offsets, offset_bytes, field_of, fields, fields_all, buffers, buffers_all, records, body, records_of, body_of}
-use Rattle.layout.specs.Reading.{Got, GotAll, rows_in, buffer, valid, slot_in, offset_in, between, decode, decode_all, parts}
+use Rattle.layout.specs.Lists.{cut, join_all, total, lengths}
+use Rattle.layout.specs.Bits.{bytes_for, bit_at, zeros}
+use Rattle.laws.proofs.Good.{Marked, Good, GoodAll}
+use Rattle.layout.specs.Shown.{Bits, Marks, all, some, Shown, Showns, nulls, bools, fixed, bytes, lists, struct, dictionary, none, more, Value, null, held, marked, column, across, named, values, values_all, met, met_all, Shapes, shape, shapes}
+use Rattle.layout.specs.Messages.{FieldRecord, bit_bytes, mark_bytes, offsets, offset_bytes, fields, fields_all, buffers, buffers_all, records_of, body_of}
+use Rattle.layout.specs.Reading.{Got, GotAll, valid, slot_in, offset_in, between, decode, decode_all, parts}
 use Rattle.layout.proofs.Lists.{rows_same}
 use Rattle.laws.proofs.Lists.{map-append, get_or_front, join_at, cut-fixed, total-take, total_next}
 use Rattle.laws.proofs.Bits.{pack-bit, length-pack, no_zeros, number_at}

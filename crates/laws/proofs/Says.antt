@@ -1,17 +1,17 @@
 -- What a window of an opened recording shows is what the recording has there.
-use Rattle.std.proofs.Common.{◌≡◌, ℕ, zero, suc, ◌+◌, ◌-◌, ◌*◌, ◌%◌, ◌^◌, ◌<◌, ◌≤◌, Bool, true, false, cond, eqb, List, [], ◌∷◌, ◌++◌, map, length, get_or, take, drop, replicate, Some, None, Option, sym, refl, ap, ◌∙◌, subst, ap₂, le_of_suc-le-suc, not-suc-le-zero, add-zero, add_assoc, mul-le-mul_right, suc-mul, arith, length-drop, length-take, take_all}
+use Rattle.std.proofs.Common.{◌≡◌, ℕ, zero, suc, ◌+◌, ◌-◌, ◌*◌, ◌^◌, ◌<◌, ◌≤◌, Bool, true, false, cond, List, [], ◌∷◌, ◌++◌, map, length, get_or, take, drop, replicate, Some, None, Option, sym, refl, ap, ◌∙◌, subst, ap₂, not-suc-le-zero, add-zero, add_assoc, mul-le-mul_right, suc-mul, arith, length-take, take_all}
 use Rattle.layout.specs.declared.node.Node.{Node}
 use Rattle.layout.specs.Lists.{rows, cut, total, lengths}
-use Rattle.layout.specs.Numbers.{unle, natural, number}
-use Rattle.layout.specs.Bits.{bit_at, bytes_for}
+use Rattle.layout.specs.Numbers.{unle, natural}
+use Rattle.layout.specs.Bits.{bit_at}
 use Rattle.layout.specs.Trees.{Tree, Forest, nulls, bools, fixed, bytes, lists, struct, dictionary, none, more, rows_of}
 use Rattle.layout.specs.Rows.{mark_in, mark_at, flag_at, slot_at, offset_at, count_at, string_at, key_at}
-use Rattle.layout.specs.Windows.{value_at, values_at, bits_at, marks_in, marks_at, passed_first, passed_count, shown, shown_all, shape_of, shapes_of, met_in, met_in_all}
+use Rattle.layout.specs.Windows.{value_at, values_at, marks_in, marks_at, passed_first, passed_count, shown, shown_all, shape_of, shapes_of, met_in, met_in_all}
 use Rattle.layout.specs.Nodes.{bitmap_of}
-use Rattle.layout.specs.Rules.{Rising, Keyed}
-use Rattle.laws.proofs.Opened.{RowsAll, Own, Opened, OpenedAll}
-use Rattle.laws.proofs.Good.{Marked, Each, Good, GoodAll}
-use Rattle.layout.specs.Shown.{Bits, Marks, Shown, Showns, Value, null, held, marked, column, across, named, count, values, values_all, met, met_all, Shape, Shapes, shape, shapes}
+use Rattle.layout.specs.Rules.{Rising}
+use Rattle.laws.proofs.Opened.{RowsAll, Opened, OpenedAll}
+use Rattle.laws.proofs.Good.{Marked, Good, GoodAll}
+use Rattle.layout.specs.Shown.{Shown, Value, null, held, marked, column, across, named, count, values, values_all, met, met_all, Shape, Shapes, shape, shapes}
 use Rattle.layout.proofs.Lists.{rows_same, get_or_rows, length-rows, length_cut}
 use Rattle.laws.proofs.Lists.{map-append, map_rows, cut-rows, each_rows, steps, rise}
 use Rattle.laws.proofs.Bits.{number_small}

@@ -1,17 +1,17 @@
 -- How long the buffers are.
-use Rattle.std.proofs.Common.{◌≡◌, ℕ, zero, suc, ◌+◌, ◌-◌, ◌*◌, ◌<◌, ◌≤◌, Bool, true, false, cond, eqb, List, [], ◌∷◌, ◌++◌, map, length, drop, Some, None, Option, sym, refl, ap, ◌∙◌, subst, ap₂, mul-le-mul_right, suc-mul, arith, length-append, length-drop, length-take}
+use Rattle.std.proofs.Common.{◌≡◌, ℕ, ◌+◌, ◌-◌, ◌*◌, ◌≤◌, Bool, true, false, cond, eqb, List, [], ◌∷◌, ◌++◌, length, drop, Some, None, Option, refl, ap, ◌∙◌, mul-le-mul_right, suc-mul, arith, length-append, length-drop, length-take}
 use lib.ListN.{length-map}
 use Rattle.layout.specs.Nodes.{bitmap_of}
 use Rattle.layout.specs.declared.node.Node.{Node}
 use Rattle.layout.specs.Trees.{Tree, Forest, rows_of}
-use Rattle.layout.specs.Lists.{rows, cut, join_all, lengths}
-use Rattle.layout.specs.Numbers.{le, le_all}
+use Rattle.layout.specs.Lists.{rows, cut, lengths}
+use Rattle.layout.specs.Numbers.{le_all}
 use Rattle.layout.specs.Bits.{bytes_for, zeros}
 use Rattle.layout.specs.Rows.{offset_at, count_at, string_at}
 use Rattle.layout.specs.Windows.{bits_at, marks_in, marks_at, passed_first, passed_count, shown, shown_all}
 use Rattle.laws.proofs.Opened.{RowsAll, Opened, OpenedAll, Based}
 use Rattle.laws.proofs.Good.{AtMost}
-use Rattle.layout.specs.Shown.{Bits, Marks, some, Shown, Showns, nulls, bools, fixed, bytes, lists, struct, dictionary, none, more}
+use Rattle.layout.specs.Shown.{Bits, Marks, Shown, Showns, nulls, bools, fixed, bytes, lists, struct, dictionary, none, more}
 use Rattle.layout.specs.Messages.{bit_bytes, mark_bytes, offsets, offset_bytes, fields, fields_all, buffers, buffers_all}
 use Rattle.layout.proofs.Lists.{length-rows}
 use Rattle.layout.proofs.Numbers.{length-le}

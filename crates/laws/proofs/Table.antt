@@ -1,5 +1,5 @@
 -- The trees of a table by node numbers, and by kind.
-use Rattle.std.proofs.Common.{◌≡◌, ℕ, zero, suc, ◌+◌, ◌-◌, ◌<◌, ◌≤◌, Bool, true, false, cond, eqb, List, [], ◌∷◌, ◌++◌, length, get_or, take, drop, Some, None, Option, sym, refl, ap, ◌∙◌, subst, ap₂, not-suc-le-zero, sub-eq-zero_of_le, add-one, arith, length-drop, length-take, take_all, drop-cons, take-take, drop-drop}
+use Rattle.std.proofs.Common.{◌≡◌, ℕ, zero, suc, ◌+◌, ◌-◌, ◌<◌, ◌≤◌, List, [], ◌∷◌, length, take, drop, Some, None, Option, sym, refl, ap, ◌∙◌, ap₂, sub-eq-zero_of_le, add-one, arith, length-drop, length-take, drop-cons, take-take, drop-drop}
 use native.Mathlib.Nat.{zero-sub}
 use lib.Seq.{take-nil}
 use Rattle.layout.specs.declared.kind.Kind.{Kind}
@@ -10,7 +10,7 @@ use Rattle.layout.specs.Rules.{Is}
 use Rattle.layout.specs.Trees.{root_of, tree_as}
 use Rattle.layout.proofs.Table.{kind_of_lem}
 use Rattle.layout.specs.Lists.{cut}
-use Rattle.layout.specs.Trees.{Tree, Forest, none, more, tree_of, forest_by, trees_in, tree_at}
+use Rattle.layout.specs.Trees.{Forest, none, more, tree_of, forest_by, trees_in, tree_at}
 use Rattle.layout.specs.Nodes.{zero_node, node_at}
 
 -- fuel above the length does not matter

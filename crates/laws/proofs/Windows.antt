@@ -1,18 +1,17 @@
 -- The laws of windows.
-use Rattle.std.proofs.Common.{◌≡◌, ℕ, zero, suc, ◌+◌, ◌-◌, ◌<◌, ◌≤◌, ◌↔◌, List, [], ◌∷◌, ◌++◌, map, length, get_or, take, set, sym, refl, ap, ◌∙◌, subst, ap₂, append_assoc, add-zero, add_assoc, arith}
+use Rattle.std.proofs.Common.{◌≡◌, ℕ, ◌+◌, ◌-◌, ◌<◌, ◌≤◌, List, [], ◌∷◌, ◌++◌, map, get_or, take, set, sym, refl, ap, ◌∙◌, subst, ap₂, add_assoc, arith}
 use Rattle.layout.specs.Lists.{rows}
-use Rattle.layout.specs.Nodes.{node_at}
-use Rattle.layout.specs.Trees.{Tree, Forest, rows_of, tree_at}
-use Rattle.layout.specs.Shown.{Shown, Showns, Value, null, Shape, Shapes, count, values, values_all, met, met_all, shape, shapes, Same, Front}
-use Rattle.layout.specs.Messages.{MessageKind, Message, fields_all, buffers_all, records_of, body_of, message_of, field_entries, buffer_entries, work_bytes}
-use Rattle.layout.specs.Reading.{GotAll, read, heard, decode_all, parts}
-use Rattle.layout.specs.Windows.{value_at, shown, shape_of, met_in, Window, Inside, tree_in, value_in, values_in, shown_in, shape_in, first_rows, later_rows, Equal, EachInside, shown_side, shapes_side, whole_values, dictionary_values}
-use Rattle.layout.proofs.Lists.{rows_same, get_or_rows, length-rows}
+use Rattle.layout.specs.Trees.{Tree, rows_of}
+use Rattle.layout.specs.Shown.{Shown, Showns, Value, null, Shapes, count, values, values_all, met, met_all, shape, shapes, Same, Front}
+use Rattle.layout.specs.Messages.{MessageKind, fields_all, buffers_all, records_of, body_of, message_of, field_entries, buffer_entries, work_bytes}
+use Rattle.layout.specs.Reading.{GotAll, read, decode_all, parts}
+use Rattle.layout.specs.Windows.{value_at, Window, Inside, tree_in, value_in, values_in, shown_in, shape_in, first_rows, later_rows, Equal, EachInside, shown_side, shapes_side, whole_values, dictionary_values}
+use Rattle.layout.proofs.Lists.{rows_same, get_or_rows}
 use Rattle.laws.specs.RoundTrip.{RoundTrip, ShowsValues, Plain, Heard}
-use Rattle.laws.specs.NothingElse.{SameSent, NothingElseCounts}
+use Rattle.laws.specs.NothingElse.{NothingElseCounts}
 use Rattle.laws.specs.Equality.{Equality, ToldByShown}
 use Rattle.laws.proofs.Opened.{Opened}
-use Rattle.laws.proofs.Good.{Good, GoodAll}
+use Rattle.laws.proofs.Good.{GoodAll}
 use Rattle.laws.proofs.Kept.{tree_rows, opened_at}
 use Rattle.laws.proofs.Lists.{rows_add, take-rows, map-append}
 use Rattle.laws.proofs.Round.{read_back}

@@ -1,5 +1,5 @@
 -- What a window passes to its children lies inside their rows, and is what it shows of them.
-use Rattle.std.specs.Prelude.{◌≡◌, ℕ, ◌+◌, List, [], ◌∷◌, map}
+use Rattle.std.specs.Prelude.{◌≡◌, ℕ, ◌+◌, List, map}
 use Rattle.layout.specs.declared.kind.Kind.{Kind}
 use Rattle.layout.specs.declared.kind.Kind.TheVariants.{List32, List64, Struct, Dictionary}
 use Rattle.layout.specs.Lists.{rows}

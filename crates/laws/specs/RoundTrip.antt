@@ -1,6 +1,6 @@
 -- What is sent of windows, read by the Arrow rules, is the windows' rows and values.
 use Rattle.std.specs.Prelude.{◌≡◌, ℕ, ◌-◌, ◌≤◌, List, [], ◌∷◌, ◌++◌, map, slice_index_or, slice_set}
-use Rattle.layout.specs.Shown.{Shown, Value, values}
+use Rattle.layout.specs.Shown.{Value, values}
 use Rattle.layout.specs.Messages.{MessageKind, message_of, body_of}
 use Rattle.layout.specs.Reading.{read, heard}
 use Rattle.layout.specs.Windows.{Window, Inside, EachInside, tree_in, values_in, shown_in, shape_in, first_rows, later_rows, met_in, shown_side, shapes_side, dictionary_values}

@@ -4,8 +4,8 @@ use Rattle.layout.specs.declared.node.Node.{Node}
 use Rattle.layout.specs.Lists.{total}
 use Rattle.layout.specs.Rules.{SideBySide}
 use Rattle.layout.specs.Shown.{Showns}
-use Rattle.layout.specs.Messages.{FieldRecord, BufferRecord, padded, records, body, fields_all, buffers_all, records_of, body_of, field_entries, buffer_entries, work_bytes}
-use Rattle.layout.specs.Windows.{Window, EachInside, columns_of, shown_side}
+use Rattle.layout.specs.Messages.{FieldRecord, BufferRecord, padded, records, body, fields_all, records_of, body_of, field_entries, buffer_entries, work_bytes}
+use Rattle.layout.specs.Windows.{EachInside, columns_of, shown_side}
 
 -- ---- where buffers stand
 

@@ -1,9 +1,9 @@
 -- A stack of the ends of the nodes that reach past a place counts them.
-use Rattle.std.proofs.Common.{◌≡◌, ℕ, zero, suc, ◌+◌, ◌-◌, ◌*◌, ◌<◌, ◌≤◌, Bool, true, false, cond, ltb, ◌≢◌, ◌⊎◌, List, [], ◌∷◌, length, get_or, set, sym, refl, ap, ◌∙◌, subst, ap₂, inl, inr, add-one, arith, get_or-set_other, get_or-set_same}
+use Rattle.std.proofs.Common.{◌≡◌, ℕ, zero, suc, ◌+◌, ◌-◌, ◌<◌, ◌≤◌, Bool, true, false, cond, ltb, ◌≢◌, List, [], ◌∷◌, length, get_or, set, sym, refl, ap, ◌∙◌, ap₂, inl, inr, add-one, arith, get_or-set_other, get_or-set_same}
 use Rattle.std.proofs.lemmas.Bool.{lt-ltb, le-ltb, cases_eq, cases_lt}
 use Rattle.layout.specs.declared.node.Node.{Node}
 use Rattle.layout.specs.Lists.{count}
-use Rattle.layout.specs.Nodes.{node_at, end_of, depth_of}
+use Rattle.layout.specs.Nodes.{end_of, depth_of}
 use Rattle.layout.specs.Rules.{SideBySide, Filled, Nested}
 use Rattle.layout.proofs.Kids.{side_le}
 

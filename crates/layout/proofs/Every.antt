@@ -1,5 +1,5 @@
 -- Tests of every number below a bound, of every member, and of what may be absent.
-use Rattle.std.proofs.Common.{◌≡◌, ℕ, zero, suc, ◌+◌, ◌-◌, ◌*◌, ◌<◌, ◌≤◌, Bool, true, false, cond, ◌&&◌, ◌⊎◌, Some, None, Option, sym, refl, ap, ◌∙◌, inl, inr, add-suc, add-one, arith}
+use Rattle.std.proofs.Common.{◌≡◌, ℕ, zero, suc, ◌+◌, ◌<◌, Bool, true, false, cond, ◌&&◌, Some, None, Option, refl, ap, ◌∙◌, inl, inr, add-suc, add-one, arith}
 use Rattle.std.proofs.lemmas.Bool.{and_left, and_right, and_from, and_parts, cases_eq}
 use Rattle.layout.specs.Lists.{every}
 use Rattle.layout.specs.Tests.{passes}

@@ -1,6 +1,5 @@
 -- What the rules tell of a node by its kind, for those that read it.
-use Rattle.std.proofs.Common.{◌≡◌, ℕ, zero, suc, ◌+◌, ◌-◌, ◌*◌, ◌^◌, ◌<◌, ◌≤◌, Bool, true, false, ◌⊎◌, List, length, is_some, Some, None, Option, sym, refl, ap, ◌∙◌, subst, inl, inr, arith}
-use Rattle.std.proofs.lemmas.Nat.{mul-le}
+use Rattle.std.proofs.Common.{◌≡◌, ℕ, ◌+◌, ◌*◌, ◌<◌, ◌≤◌, true, List, length, is_some, Some, None, Option, sym, refl, ap, ◌∙◌, subst, arith}
 use Rattle.layout.specs.declared.kind.Kind.{Kind}
 use Rattle.layout.specs.declared.kind.Kind.TheVariants.{Null, Boolean, Fixed, Bytes32, Bytes64, List32, List64, Struct, Dictionary}
 use Rattle.layout.specs.declared.node.Node.{Node}
@@ -8,8 +7,8 @@ use Rattle.layout.specs.declared.number.Width.{Width}
 use Rattle.layout.specs.declared.number.Width.TheVariants.{One, Two, Four, Eight}
 use Rattle.layout.specs.Numbers.{wide, width_of}
 use Rattle.layout.specs.Bits.{bytes_for}
-use Rattle.layout.specs.Kinds.{kind_number, kind_of, offset_width, has_bitmap}
-use Rattle.layout.specs.Nodes.{node_at, end_of, bitmap_of}
+use Rattle.layout.specs.Kinds.{offset_width, has_bitmap}
+use Rattle.layout.specs.Nodes.{node_at}
 use Rattle.layout.specs.Rules.{Is, Tabled, Nested, Placed, Lies, SizeFits, ChildrenFit}
 use Rattle.layout.proofs.Table.{kind_of_lem, width_of_lem}
 use Rattle.layout.proofs.Kids.{one_child}

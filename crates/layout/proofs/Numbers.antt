@@ -1,15 +1,15 @@
 -- Little-endian numbers: byte by byte, and that what is written is read.
-use Rattle.std.proofs.Common.{◌≡◌, ℕ, zero, suc, ◌+◌, ◌-◌, ◌*◌, ◌/◌, ◌%◌, ◌^◌, ◌<◌, ◌≤◌, Bool, true, false, cond, ltb, List, [], ◌∷◌, ◌++◌, length, get_or, take, drop, ℤ, pos, negsuc, sym, refl, ap, ◌∙◌, subst, not-suc-le-zero, mul_assoc, pow-suc, arith, w8, w16, w32, w64, to_z, of_z}
+use Rattle.std.proofs.Common.{◌≡◌, ℕ, zero, suc, ◌+◌, ◌-◌, ◌*◌, ◌/◌, ◌%◌, ◌^◌, ◌<◌, ◌≤◌, true, false, cond, ltb, List, [], ◌∷◌, length, get_or, take, ℤ, pos, negsuc, sym, refl, ap, ◌∙◌, subst, mul_assoc, pow-suc, arith, w8, w16, w32, w64, to_z, of_z}
 use native.Mathlib.Nat.{div-div-eq-div-mul}
 use borrow.Rule.Slice.PartMut.{put_mid}
 use Rattle.std.proofs.lemmas.List.{drop_more, drop-drop}
 use Rattle.std.proofs.lemmas.Bool.Decides.{nat_tests}
 use Rattle.std.proofs.lemmas.Int.{ints}
-use Rattle.std.proofs.lemmas.Bool.{lt-ltb, le-ltb, cases_lt}
+use Rattle.std.proofs.lemmas.Bool.{lt-ltb, le-ltb}
 use Rattle.layout.specs.declared.number.Width.{Width}
 use Rattle.layout.specs.declared.number.Width.TheVariants.{One, Two, Four, Eight}
 use Rattle.layout.specs.Lists.{cut, put}
-use Rattle.layout.specs.Numbers.{wide, le, unle, natural, signed, twos, SignedFits, unsigned_at, signed_at}
+use Rattle.layout.specs.Numbers.{wide, le, unle, signed, twos, SignedFits, unsigned_at, signed_at}
 use Rattle.layout.proofs.Lists.{length_cut, cut-put}
 
 -- ---- reading

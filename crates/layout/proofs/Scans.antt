@@ -1,16 +1,15 @@
 -- What a scan of offsets or keys tells.
-use Rattle.std.proofs.Common.{◌≡◌, ℕ, zero, suc, ◌+◌, ◌-◌, ◌*◌, ◌^◌, ◌<◌, ◌≤◌, min, Bool, true, false, cond, not, ◌&&◌, ◌||◌, eqb, ltb, leb, ◌⊎◌, List, [], ◌∷◌, length, drop, Some, None, Option, sym, refl, ap, ◌∙◌, subst, ap₂, inl, inr, arith}
+use Rattle.std.proofs.Common.{◌≡◌, ℕ, zero, suc, ◌+◌, ◌*◌, ◌^◌, ◌<◌, ◌≤◌, min, Bool, true, false, cond, not, ◌&&◌, ◌||◌, ltb, leb, ◌⊎◌, List, length, drop, Some, None, Option, sym, refl, ap, ◌∙◌, inl, inr, arith}
 use Rattle.std.proofs.lemmas.Bool.{and_left, and_right, and_from, and_parts, lt-ltb, le-ltb, lt-leb, le-leb, leb-true, eq-eqb, ne_eqb, cases_eq, cases_Bool, cases_lt}
 use Rattle.layout.specs.declared.node.Node.{Node}
-use Rattle.layout.specs.declared.number.Width.{Width}
 use Rattle.layout.specs.Lists.{every}
-use Rattle.layout.specs.Numbers.{wide, unle, natural, unsigned_at}
+use Rattle.layout.specs.Numbers.{unle, natural}
 use Rattle.layout.specs.Bits.{bit_at}
 use Rattle.layout.specs.Nodes.{bitmap_of}
 use Rattle.layout.specs.Rows.{mark_in, slot_at, key_at}
 use Rattle.layout.specs.Tests.{rises_to, key_passes, keyed_below}
 use Rattle.layout.proofs.Lists.{length_cut}
-use Rattle.layout.proofs.Every.{every_at, every-all, every_false, every-same}
+use Rattle.layout.proofs.Every.{every-all, every_false, every-same}
 use Rattle.layout.proofs.Places.{slot_within}
 
 -- a slot that lies within the bytes is whole

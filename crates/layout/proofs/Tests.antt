@@ -1,10 +1,10 @@
 -- Each test is true exactly if its rule holds.
-use Rattle.std.proofs.Common.{◌≡◌, ℕ, zero, suc, ◌+◌, ◌-◌, ◌*◌, ◌^◌, ◌<◌, ◌≤◌, Bool, true, false, cond, not, ◌&&◌, eqb, ltb, leb, ◌⊎◌, ◌↔◌, List, [], ◌∷◌, length, Some, None, Option, sym, refl, ap, ◌∙◌, subst, ap₂, inl, inr, arith}
+use Rattle.std.proofs.Common.{◌≡◌, ℕ, ◌+◌, ◌<◌, ◌≤◌, Bool, true, cond, not, ◌&&◌, eqb, ltb, leb, List, length, Some, None, Option, refl, ap, ◌∙◌, inl, inr, arith}
 use Rattle.std.proofs.lemmas.Bool.{and_parts, and_from, leb-true, le-leb, ltb-true, lt-ltb, eqb-true, eq-eqb, ne_eqb, cases_eq}
 use Rattle.layout.specs.declared.fault.Refusal.{Refusal}
 use Rattle.layout.specs.declared.fault.Refusal.TheVariants.{Alignment, NodeBytes, TooLarge, KindOrSize, Nesting, Place, Offset, Key, Ended, Column, DictionaryAboveDictionary, NoId, Replacement, Memory, Rows, Header, Sink, Ids}
 use Rattle.layout.specs.declared.kind.Kind.{Kind}
-use Rattle.layout.specs.declared.kind.Kind.TheVariants.{Null, Boolean, Fixed, Bytes32, Bytes64, List32, List64, Struct, Dictionary}
+use Rattle.layout.specs.declared.kind.Kind.TheVariants.{Struct, Dictionary}
 use Rattle.layout.specs.declared.node.Node.{Node}
 use Rattle.layout.specs.declared.number.Width.{Width}
 use Rattle.layout.specs.Lists.{every, all, sum_of}
@@ -12,9 +12,9 @@ use Rattle.layout.specs.Numbers.{wide, unle, natural, number}
 use Rattle.layout.specs.Bits.{bytes_for}
 use Rattle.layout.specs.Kinds.{kind_number, kind_of, size_fits, children_fit, offset_width, slot_bytes, same, has_data, has_bitmap}
 use Rattle.layout.specs.Nodes.{node_at, end_of, depth_of, bitmap_of}
-use Rattle.layout.specs.Rows.{mark_at, slot_at, offset_at, key_at}
-use Rattle.layout.specs.Rules.{Is, Tabled, Nested, Placed, Rising, reach, OffsetsKept, Keyed, KeysKept, Rule, SideBySide, AllRows, ChildrenFit}
-use Rattle.layout.specs.Tests.{passes, tabled_as, tabled_by, kids_of, kids_fit, shaped_as, lies, slots_lie, bitmap_lies, data_lies, placed_as, rises_to, offsets_as, key_passes, keyed_below, keys_as, kind_at, holds, sound}
+use Rattle.layout.specs.Rows.{mark_at, slot_at, key_at}
+use Rattle.layout.specs.Rules.{Is, Tabled, Nested, Placed, Rising, reach, OffsetsKept, Keyed, KeysKept, Rule}
+use Rattle.layout.specs.Tests.{passes, tabled_by, kids_of, kids_fit, shaped_as, lies, slots_lie, bitmap_lies, data_lies, placed_as, rises_to, offsets_as, key_passes, keyed_below, keys_as, kind_at, holds}
 use Rattle.layout.proofs.Table.{kind-is, kind_of_lem, size_tells, size_from, children_tell, children_from}
 use Rattle.layout.proofs.Every.{every_at, every-all, passes_at, passes-all, cond_at, cond_all}
 use Rattle.layout.proofs.Kids.{some, span_of, some_from, some_tells, side_kids, side_facts, kids_side, rows_tell, rows_from}

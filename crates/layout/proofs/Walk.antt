@@ -1,13 +1,13 @@
 -- A walk over the children of a node, for the check of its nesting.
-use Rattle.std.proofs.Common.{◌≡◌, ℕ, zero, suc, ◌+◌, ◌-◌, ◌*◌, ◌<◌, ◌≤◌, Bool, true, false, cond, not, ◌&&◌, eqb, ltb, leb, ◌⊎◌, List, [], ◌∷◌, length, Some, None, Option, sym, refl, ap, ◌∙◌, subst, ap₂, inl, inr, arith}
-use Rattle.std.proofs.lemmas.Bool.{and_left, and_right, and_from, and_parts, and_cases, not-false, not-true, eqb-false, leb-true, true≢false, lt-leb, le-leb, leb-false, eqb-true, eq-eqb, ne_eqb, cases_Bool, cases_eq}
+use Rattle.std.proofs.Common.{◌≡◌, ℕ, zero, suc, ◌+◌, ◌-◌, ◌<◌, ◌≤◌, Bool, true, false, cond, not, ◌&&◌, eqb, leb, List, length, Some, sym, refl, ap, ◌∙◌, subst, ap₂, inl, inr, arith}
+use Rattle.std.proofs.lemmas.Bool.{and_left, and_right, and_parts, and_cases, not-false, not-true, eqb-false, leb-true, true≢false, lt-leb, le-leb, leb-false, eqb-true, eq-eqb, ne_eqb, cases_Bool, cases_eq}
 use Rattle.layout.specs.declared.kind.Kind.{Kind}
 use Rattle.layout.specs.declared.kind.Kind.TheVariants.{Struct}
 use Rattle.layout.specs.declared.node.Node.{Node}
 use Rattle.layout.specs.Lists.{all, sum_of}
 use Rattle.layout.specs.Kinds.{children_fit, same}
 use Rattle.layout.specs.Nodes.{node_at, end_of}
-use Rattle.layout.specs.Tests.{passes, kids, kids_of, spans_within, rows_agree, kids_fit, shaped_as}
+use Rattle.layout.specs.Tests.{kids, kids_of, spans_within, rows_agree, kids_fit, shaped_as}
 use Rattle.layout.proofs.Every.{cond_at}
 use Rattle.layout.proofs.Kids.{kids_step, kids_zero, kids_end, some, span_of, some_from}
 

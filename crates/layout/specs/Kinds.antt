@@ -1,10 +1,10 @@
 -- The table of kinds.
-use Rattle.std.specs.Prelude.{◌≡◌, ℕ, ◌+◌, ◌*◌, ◌≤◌, Bool, true, false, cond, not, ◌&&◌, ◌||◌, List, [], ◌∷◌, is_some, Some, None, Option, ◌==◌, nat_le}
+use Rattle.std.specs.Prelude.{ℕ, ◌+◌, ◌*◌, Bool, true, cond, not, ◌&&◌, ◌||◌, List, [], ◌∷◌, is_some, Some, None, Option, ◌==◌, nat_le}
 use Rattle.layout.specs.declared.number.Width.{Width}
-use Rattle.layout.specs.declared.number.Width.TheVariants.{One, Two, Four, Eight}
+use Rattle.layout.specs.declared.number.Width.TheVariants.{Four, Eight}
 use Rattle.layout.specs.declared.kind.Kind.{Kind}
 use Rattle.layout.specs.declared.kind.Kind.TheVariants.{Null, Boolean, Fixed, Bytes32, Bytes64, List32, List64, Struct, Dictionary}
-use Rattle.layout.specs.Numbers.{wide, width_of}
+use Rattle.layout.specs.Numbers.{width_of}
 use Rattle.layout.specs.Bits.{bytes_for}
 
 abbrev pub kind_number : Kind → ℕ

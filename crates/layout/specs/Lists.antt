@@ -1,5 +1,5 @@
 -- Rows, parts of lists, sums, and tests of all that stands below a number or in a list.
-use Rattle.std.specs.Prelude.{ℕ, zero, suc, ◌+◌, Bool, true, false, cond, ◌&&◌, List, [], ◌∷◌, ◌++◌, map, length, take, drop}
+use Rattle.std.specs.Prelude.{ℕ, zero, suc, ◌+◌, Bool, true, cond, ◌&&◌, List, [], ◌∷◌, ◌++◌, map, length, take, drop}
 
 -- f 0, f 1, .. f (n - 1)
 abbrev pub rows : {X : Type 0} → ℕ → (ℕ → X) → List X

@@ -1,5 +1,5 @@
 -- The table of nodes: ten numbers of eight bytes each, node after node.
-use Rattle.std.specs.Prelude.{ℕ, zero, suc, ◌+◌, ◌-◌, ◌*◌, ◌/◌, cond, List, length, Some, None, Option, ◌==◌, nat_lt, slice_index_or}
+use Rattle.std.specs.Prelude.{ℕ, ◌+◌, ◌-◌, ◌*◌, ◌/◌, cond, List, length, Some, None, Option, ◌==◌, nat_lt, slice_index_or}
 use Rattle.layout.specs.declared.node.Node.{Node}
 use Rattle.layout.specs.declared.number.Width.TheVariants.{Eight}
 use Rattle.layout.specs.Lists.{rows, count}

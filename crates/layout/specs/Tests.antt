@@ -1,11 +1,10 @@
 -- The rules of an opening as tests: each is true exactly if its rule holds (Laws, Tested).
-use Rattle.std.specs.Prelude.{ℕ, zero, suc, ◌+◌, ◌<◌, ◌≤◌, Bool, true, false, cond, not, ◌&&◌, leb, List, [], ◌∷◌, length, Some, None, Option, ◌==◌, nat_eq, nat_le, nat_lt}
+use Rattle.std.specs.Prelude.{ℕ, zero, suc, ◌+◌, Bool, true, false, cond, not, ◌&&◌, leb, List, [], ◌∷◌, length, Some, None, Option, ◌==◌, nat_eq, nat_le, nat_lt}
 use Rattle.layout.specs.declared.fault.Refusal.{Refusal}
 use Rattle.layout.specs.declared.fault.Refusal.TheVariants.{Alignment, NodeBytes, TooLarge, KindOrSize, Nesting, Place, Offset, Key, Ended, Column, DictionaryAboveDictionary, NoId, Replacement, Memory, Rows, Header, Sink, Ids}
 use Rattle.layout.specs.declared.kind.Kind.{Kind}
 use Rattle.layout.specs.declared.kind.Kind.TheVariants.{Struct, Dictionary}
 use Rattle.layout.specs.declared.node.Node.{Node}
-use Rattle.layout.specs.declared.number.Width.{Width}
 use Rattle.layout.specs.Lists.{every, all, sum_of}
 use Rattle.layout.specs.Numbers.{wide, unle, natural}
 use Rattle.layout.specs.Bits.{bytes_for}

@@ -1,5 +1,5 @@
 -- Eight rows to a byte of a bitmap.
-use Rattle.std.proofs.Common.{◌≡◌, ℕ, zero, suc, ◌+◌, ◌-◌, ◌*◌, ◌/◌, ◌%◌, ◌^◌, ◌<◌, ◌≤◌, min, Bool, true, false, not, ◌&&◌, ◌||◌, eqb, ltb, leb, List, length, get_or, drop, sym, refl, ap, ◌∙◌, ap₂, add-one, arith, get_or-drop}
+use Rattle.std.proofs.Common.{◌≡◌, ℕ, ◌+◌, ◌-◌, ◌*◌, ◌/◌, ◌%◌, ◌^◌, ◌<◌, ◌≤◌, min, Bool, true, false, not, ◌&&◌, ◌||◌, eqb, ltb, leb, List, get_or, drop, sym, ap, ◌∙◌, ap₂, add-one, arith, get_or-drop}
 use native.Mathlib.Nat.{pow-le-pow_right}
 use lib.Bits.{bit_and}
 use mir.Val.{bool_byte}

@@ -1,19 +1,18 @@
 -- What an opened recording tells of a node that was read from it.
-use Rattle.std.proofs.Common.{◌≡◌, ℕ, ◌+◌, ◌-◌, ◌*◌, ◌/◌, ◌<◌, ◌≤◌, Bool, true, false, cond, ◌⊎◌, List, length, drop, is_some, Some, None, Option, sym, refl, ap, ◌∙◌, subst, inl, inr, arith}
+use Rattle.std.proofs.Common.{◌≡◌, ℕ, ◌+◌, ◌*◌, ◌/◌, ◌<◌, ◌≤◌, Bool, true, false, cond, ◌⊎◌, List, length, is_some, Some, Option, sym, refl, ap, ◌∙◌, subst, inl, inr, arith}
 use Rattle.layout.specs.declared.fault.Refusal.{Refusal}
-use Rattle.layout.specs.declared.fault.Refusal.TheVariants.{KindOrSize, Nesting, Place, Offset, Key}
+use Rattle.layout.specs.declared.fault.Refusal.TheVariants.{KindOrSize, Place, Offset, Key}
 use Rattle.layout.specs.declared.kind.Kind.{Kind}
 use Rattle.layout.specs.declared.kind.Kind.TheVariants.{Null, Boolean, Fixed, Dictionary}
 use Rattle.layout.specs.declared.node.Node.{Node}
 use Rattle.layout.specs.declared.number.Width.{Width}
-use Rattle.layout.specs.Bits.{bytes_for, bit_at, zeros}
-use Rattle.layout.specs.Kinds.{offset_width, has_bitmap}
-use Rattle.layout.specs.Lists.{rows}
+use Rattle.layout.specs.Bits.{bytes_for}
+use Rattle.layout.specs.Kinds.{has_bitmap}
 use Rattle.layout.specs.Nodes.{node_at, bitmap_of}
-use Rattle.layout.specs.Numbers.{wide, width_of, unle, number, natural, unsigned_at}
+use Rattle.layout.specs.Numbers.{wide, width_of, unle}
 use Rattle.layout.specs.Rows.{mark_at, slot_at, offset_at, key_at, nulls_in, nulls_at}
-use Rattle.layout.specs.Rules.{Is, Tabled, Placed, Rising, Keyed, HasOffsets, Rule, Lies, reach}
-use Rattle.layout.proofs.Facts.{one_kind, fixed-size, key_size, key_width, key_width_is, key_small, bits_lie, fixed_lie, keys_lie, offsets_lie, bitmapped}
+use Rattle.layout.specs.Rules.{Is, Tabled, Placed, Rising, HasOffsets, Rule, Lies, reach}
+use Rattle.layout.proofs.Facts.{one_kind, fixed-size, key_width, key_width_is, key_small, bits_lie, fixed_lie, keys_lie, offsets_lie, bitmapped}
 use Rattle.layout.proofs.Places.{slot_within, bit-within}
 use Rattle.layout.proofs.Tests.{natural-number}
 

@@ -1,7 +1,7 @@
 -- What an opened recording tells of windows and rows.
-use Rattle.std.proofs.Common.{◌≡◌, ℕ, ◌+◌, ◌-◌, ◌*◌, ◌/◌, ◌<◌, ◌≤◌, Bool, true, false, List, length, Some, None, Option, sym, refl, ap, ap₂, ◌∙◌, subst, arith}
+use Rattle.std.proofs.Common.{◌≡◌, ℕ, ◌+◌, ◌-◌, ◌<◌, ◌≤◌, true, false, List, length, Some, None, Option, sym, refl, ap, ap₂, subst, arith}
 use Rattle.layout.specs.declared.fault.Refusal.{Refusal}
-use Rattle.layout.specs.declared.fault.Refusal.TheVariants.{KindOrSize, Nesting, Place, Offset, Key}
+use Rattle.layout.specs.declared.fault.Refusal.TheVariants.{KindOrSize, Nesting, Place, Offset}
 use Rattle.layout.specs.declared.kind.Kind.{Kind}
 use Rattle.layout.specs.declared.kind.Kind.TheVariants.{Null, Boolean, Fixed, Bytes32, Bytes64, List32, List64, Struct, Dictionary}
 use Rattle.layout.specs.declared.node.Node.{Node}
@@ -12,7 +12,7 @@ use Rattle.layout.specs.Kinds.{offset_width, has_data, has_bitmap}
 use Rattle.layout.specs.Nodes.{node_at, end_of, bitmap_of}
 use Rattle.layout.specs.Numbers.{wide}
 use Rattle.layout.specs.Rows.{offset_at, count_at, string_at}
-use Rattle.layout.specs.Rules.{Is, Lies, Rule, Rising, reach, ChildrenFit}
+use Rattle.layout.specs.Rules.{Is, Lies, Rule, reach, ChildrenFit}
 use Rattle.layout.specs.Opening.{Kept}
 use Rattle.layout.specs.Trees.{Tree, trees_in, tree_at, tree_as}
 use Rattle.layout.specs.Messages.{null_count, own_field}

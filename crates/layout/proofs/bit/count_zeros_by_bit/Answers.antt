@@ -1,4 +1,4 @@
-use Rattle.std.proofs.Common.{◌+◌, not, drop, sym, arith}
+use Rattle.std.proofs.Common.{◌+◌, not, drop, arith}
 use Rattle.layout.specs.Bits.{bit_at}
 use Rattle.layout.proofs.Bits.{zeros-more, one_at_most}
 use Rattle.layout.proofs.bit.count_zeros_by_bit.Goals as goal

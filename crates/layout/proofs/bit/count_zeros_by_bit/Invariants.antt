@@ -1,4 +1,4 @@
-use Rattle.std.proofs.Common.{◌≡◌, ℕ, ◌+◌, ◌≤◌, drop}
+use Rattle.std.proofs.Common.{◌≡◌, ◌+◌, ◌≤◌, drop}
 use Rattle.layout.specs.Lists.{rows}
 use Rattle.layout.specs.Bits.{bit_at, zeros}
 use Rattle.layout.proofs.bit.count_zeros_by_bit.Given as goal

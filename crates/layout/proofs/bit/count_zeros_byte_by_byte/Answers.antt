@@ -1,4 +1,4 @@
-use Rattle.std.proofs.Common.{◌≡◌, ◌<◌, get_or, ap, ◌∙◌, arith, take_all}
+use Rattle.std.proofs.Common.{◌<◌, get_or, ap, ◌∙◌, arith, take_all}
 use Rattle.layout.specs.Bits.{zeros_in}
 use Rattle.layout.proofs.Words.{zeros_in_more}
 use Rattle.layout.proofs.bit.count_zeros_byte_by_byte.Goals as goal

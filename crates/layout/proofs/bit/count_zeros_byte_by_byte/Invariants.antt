@@ -1,4 +1,4 @@
-use Rattle.std.proofs.Common.{◌≡◌, ℕ, ◌*◌, ◌≤◌, take}
+use Rattle.std.proofs.Common.{◌≡◌, ◌*◌, ◌≤◌, take}
 use Rattle.layout.specs.Bits.{zeros_in}
 use Rattle.layout.proofs.bit.count_zeros_byte_by_byte.Given as goal
 

@@ -1,4 +1,4 @@
-use Rattle.std.proofs.Common.{◌≡◌, ◌/◌, length, sum_by, ap, ◌∙◌, arith}
+use Rattle.std.proofs.Common.{◌/◌, length, sum_by, ap, ◌∙◌, arith}
 use Rattle.layout.specs.Bits.{zeros_in}
 use Rattle.layout.proofs.Words.{zeros_in_chunks}
 use Rattle.layout.proofs.bit.count_zeros_in_bytes.Goals as goal

@@ -1,4 +1,4 @@
-use Rattle.std.proofs.Common.{◌≡◌, sym, ◌∙◌}
+use Rattle.std.proofs.Common.{sym, ◌∙◌}
 use Rattle.layout.proofs.Words.{zeros_word, unle_8}
 use Rattle.layout.proofs.bit.count_zeros_in_word.Goals as goal
 

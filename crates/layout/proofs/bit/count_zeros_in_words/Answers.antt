@@ -1,4 +1,4 @@
-use Rattle.std.proofs.Common.{◌≡◌, [], sum_by, ap, ◌∙◌, arith, take_all}
+use Rattle.std.proofs.Common.{[], sum_by, ap, ◌∙◌, arith, take_all}
 use Rattle.std.proofs.lemmas.List.Sums.{sum_by_more}
 use Rattle.layout.specs.Bits.{zeros_in}
 use Rattle.layout.proofs.bit.count_zeros_in_words.Goals as goal

@@ -1,4 +1,4 @@
-use Rattle.std.proofs.Common.{◌≡◌, ℕ, ◌*◌, ◌≤◌, take, sum_by}
+use Rattle.std.proofs.Common.{◌≡◌, ◌*◌, ◌≤◌, take, sum_by}
 use Rattle.layout.specs.Bits.{zeros_in}
 use Rattle.layout.proofs.bit.count_zeros_in_words.Given as goal
 

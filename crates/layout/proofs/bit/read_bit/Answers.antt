@@ -1,4 +1,4 @@
-use Rattle.std.proofs.Common.{◌≡◌, ℕ, ◌/◌, ◌%◌, ◌^◌, eqb, sym, ap, ◌∙◌, get_or-drop}
+use Rattle.std.proofs.Common.{ℕ, ◌/◌, ◌%◌, eqb, sym, ap, ◌∙◌, get_or-drop}
 use Rattle.std.proofs.lemmas.Nat.{and_mask}
 use Rattle.layout.specs.Bits.{bit_of}
 use Rattle.layout.proofs.bit.read_bit.Goals as goal

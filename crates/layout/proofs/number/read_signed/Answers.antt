@@ -1,4 +1,4 @@
-use Rattle.std.proofs.Common.{◌≡◌, ◌∙◌, w8, w16, w32, w64, SFits, rules}
+use Rattle.std.proofs.Common.{◌∙◌, w8, w16, w32, w64, SFits, rules}
 use Rattle.std.proofs.lemmas.Int.{to_z-of_z}
 use Rattle.layout.proofs.Numbers.{signed_1, signed_2, signed_4, signed_8}
 use Rattle.layout.proofs.number.read_signed.Goals as goal

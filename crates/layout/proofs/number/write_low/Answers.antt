@@ -1,5 +1,5 @@
-use Rattle.std.proofs.Common.{◌≡◌, ℕ, ◌+◌, ◌-◌, List, take, sym, ap, ◌∙◌, arith}
-use Rattle.layout.specs.Numbers.{wide, le}
+use Rattle.std.proofs.Common.{ℕ, take, sym, ap, ◌∙◌, arith}
+use Rattle.layout.specs.Numbers.{wide}
 use Rattle.layout.proofs.Numbers.{le_8, put_is, low_of}
 use Rattle.layout.proofs.number.write_low.Goals as goal
 

@@ -1,5 +1,5 @@
-use Rattle.std.proofs.Common.{◌≡◌, ◌<◌, ◌≤◌, ◌⊎◌, sym, ◌∙◌, inl, inr, arith}
-use Rattle.layout.specs.Nodes.{nodes_of, depth_of}
+use Rattle.std.proofs.Common.{sym, ◌∙◌, inl, inr, arith}
+use Rattle.layout.specs.Nodes.{nodes_of}
 use Rattle.opening.proofs.Order.{no_kind, breaks_table, breaks_shape, breaks_depth, breaks_places, ready, breaks_offsets, breaks_keys, none-broken}
 use Rattle.opening.proofs.check.check_node.Goals as goal
 

@@ -1,8 +1,7 @@
-use Rattle.std.proofs.Common.{◌≡◌, ℕ, ◌+◌, ◌*◌, ◌≤◌, true, is_some, Some, Option, sym, refl, ap, ◌∙◌, subst, arith}
+use Rattle.std.proofs.Common.{◌≡◌, ℕ, ◌+◌, ◌*◌, ◌≤◌, is_some, Some, sym, refl, ap, ◌∙◌, subst, arith}
 use Rattle.layout.specs.declared.kind.Kind.{Kind}
 use Rattle.layout.specs.declared.kind.Kind.TheVariants.{Dictionary}
 use Rattle.layout.specs.declared.node.Node.{Node}
-use Rattle.layout.specs.declared.number.Width.{Width}
 use Rattle.layout.specs.Bits.{bytes_for}
 use Rattle.layout.specs.Nodes.{nodes_of, node_at, bitmap_of}
 use Rattle.layout.specs.Numbers.{wide, width_of}

@@ -1,4 +1,4 @@
-use Rattle.std.proofs.Common.{◌≡◌, ℕ, ◌+◌, ◌*◌, ◌≤◌, sym, subst}
+use Rattle.std.proofs.Common.{◌+◌, ◌*◌, ◌≤◌, sym, subst}
 use Rattle.layout.specs.declared.node.Node.{Node}
 use Rattle.layout.specs.Nodes.{nodes_of, node_at}
 use Rattle.layout.specs.Numbers.{wide}

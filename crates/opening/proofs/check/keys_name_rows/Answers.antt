@@ -1,5 +1,5 @@
-use Rattle.std.proofs.Common.{◌≡◌, ℕ, ◌+◌, ◌*◌, ◌≤◌, not, ◌||◌, ltb, length, drop, sym, ap, ◌∙◌, arith}
-use Rattle.layout.specs.Bits.{bit_at, bytes_for}
+use Rattle.std.proofs.Common.{ℕ, ◌+◌, not, ◌||◌, ltb, drop, sym, ap, ◌∙◌}
+use Rattle.layout.specs.Bits.{bit_at}
 use Rattle.layout.specs.Lists.{every}
 use Rattle.layout.specs.Numbers.{wide, unle}
 use Rattle.layout.specs.Rows.{slot_at}

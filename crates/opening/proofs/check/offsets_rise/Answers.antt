@@ -1,4 +1,4 @@
-use Rattle.std.proofs.Common.{◌≡◌, ℕ, ◌+◌, ◌*◌, ◌⊎◌, ap, ◌∙◌, inl, inr, arith}
+use Rattle.std.proofs.Common.{ℕ, ◌+◌, ◌*◌, ap, ◌∙◌, inl, inr}
 use Rattle.layout.specs.Numbers.{wide, unsigned_at}
 use Rattle.layout.proofs.Scans.{no_rows, last_outside, last_within}
 use Rattle.opening.proofs.check.offsets_rise.Goals as goal

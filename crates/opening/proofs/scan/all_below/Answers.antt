@@ -1,4 +1,4 @@
-use Rattle.std.proofs.Common.{◌≡◌, ℕ, ◌+◌, ◌*◌, ltb, ap, ◌∙◌}
+use Rattle.std.proofs.Common.{ℕ, ◌+◌, ◌*◌, ltb, ap, ◌∙◌}
 use Rattle.layout.specs.Numbers.{wide, unsigned_at}
 use Rattle.layout.proofs.Every.{every_next}
 use Rattle.opening.proofs.scan.all_below.Goals as goal

@@ -1,4 +1,4 @@
-use Rattle.std.proofs.Common.{◌≡◌, ℕ, ◌+◌, ◌*◌, ltb}
+use Rattle.std.proofs.Common.{◌≡◌, ◌+◌, ◌*◌, ltb}
 use Rattle.layout.specs.Lists.{every}
 use Rattle.layout.specs.Numbers.{wide, unsigned_at}
 use Rattle.opening.proofs.scan.all_below.Given as goal

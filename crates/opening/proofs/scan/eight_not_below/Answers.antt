@@ -1,4 +1,4 @@
-use Rattle.std.proofs.Common.{◌≡◌, ℕ, ◌+◌, ◌*◌, Bool, leb, ap, ◌∙◌}
+use Rattle.std.proofs.Common.{ℕ, ◌+◌, ◌*◌, Bool, leb, ap, ◌∙◌}
 use mir.Val.{bool_byte}
 use Rattle.layout.specs.Numbers.{wide, unsigned_at}
 use Rattle.opening.proofs.Flagged.{flags-more, flags_fit}

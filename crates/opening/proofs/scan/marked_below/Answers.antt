@@ -1,4 +1,4 @@
-use Rattle.std.proofs.Common.{◌≡◌, ℕ, Bool, ◌∙◌}
+use Rattle.std.proofs.Common.{◌∙◌}
 use Rattle.opening.specs.Scans.{marked_below}
 use Rattle.opening.proofs.Flagged.{head_fails, middle_fails, tail_tells}
 use Rattle.opening.proofs.scan.marked_below.Goals as goal

@@ -1,4 +1,4 @@
-use Rattle.std.proofs.Common.{◌≡◌, ℕ, ◌+◌, ◌*◌, leb, ap, ◌∙◌, ap₂}
+use Rattle.std.proofs.Common.{ℕ, ◌+◌, ◌*◌, leb, ap, ◌∙◌, ap₂}
 use Rattle.layout.specs.Numbers.{wide, unsigned_at}
 use Rattle.layout.proofs.Every.{every_next}
 use Rattle.opening.proofs.scan.rises.Goals as goal

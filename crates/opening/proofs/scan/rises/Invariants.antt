@@ -1,4 +1,4 @@
-use Rattle.std.proofs.Common.{◌≡◌, ℕ, ◌+◌, ◌*◌, leb}
+use Rattle.std.proofs.Common.{◌≡◌, ◌+◌, ◌*◌, leb}
 use Rattle.layout.specs.Lists.{every}
 use Rattle.layout.specs.Numbers.{wide, unsigned_at}
 use Rattle.opening.proofs.scan.rises.Given as goal

@@ -1,4 +1,4 @@
-use Rattle.std.proofs.Common.{◌≡◌, ℕ, ◌+◌, ◌*◌, Bool, not, ◌||◌, ltb, length, drop, ap, ◌∙◌, ap₂, arith}
+use Rattle.std.proofs.Common.{ℕ, ◌+◌, ◌*◌, Bool, not, ◌||◌, ltb, length, drop, ap, ◌∙◌, ap₂, arith}
 use Rattle.layout.specs.Bits.{bit_at}
 use Rattle.layout.specs.Numbers.{wide, unsigned_at}
 use Rattle.layout.proofs.Every.{every_next}

@@ -1,4 +1,4 @@
-use Rattle.std.proofs.Common.{◌≡◌, ℕ, ◌+◌}
+use Rattle.std.proofs.Common.{◌≡◌, ◌+◌}
 use Rattle.layout.specs.Lists.{every}
 use Rattle.opening.specs.Scans.{marked_below}
 use Rattle.opening.proofs.scan.row_by_row.Given as goal

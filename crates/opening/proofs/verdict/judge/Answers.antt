@@ -1,9 +1,7 @@
-use Rattle.std.proofs.Common.{◌≡◌, ℕ, ◌+◌, ◌-◌, ◌/◌, ◌%◌, ◌<◌, ◌≤◌, ◌⊎◌, length, get_or, set, sym, refl, ap, ◌∙◌, subst, inl, inr, arith, length-set, below_more}
-use Rattle.layout.specs.declared.fault.Fault.{Fault}
+use Rattle.std.proofs.Common.{◌≡◌, ◌+◌, ◌<◌, length, ap, ◌∙◌, arith, length-set, below_more}
 use Rattle.layout.specs.declared.fault.Refusal.TheVariants.{Nesting}
 use Rattle.layout.specs.declared.node.Node.{Node}
-use Rattle.layout.specs.Nodes.{nodes_of, depth_of}
-use Rattle.layout.specs.Rules.{Nested}
+use Rattle.layout.specs.Nodes.{nodes_of}
 use Rattle.layout.proofs.Nodes.{length-nodes}
 use Rattle.layout.proofs.Depth.{Settled, settled, settled_depth, settled_push}
 use Rattle.layout.proofs.Opening.{ends_ok, ends_broken}

@@ -1,4 +1,3 @@
-use Rattle.std.proofs.Common.{◌≡◌, sym, ◌∙◌}
 use Rattle.layout.specs.Nodes.{node_in}
 use Rattle.layout.proofs.Nodes.{at_nodes}
 use Rattle.layout.proofs.node.Node.at.Goals as goal

@@ -1,4 +1,4 @@
-use Rattle.std.proofs.Common.{◌≡◌, ℕ, ◌<◌, ◌≤◌}
+use Rattle.std.proofs.Common.{◌≡◌, ℕ, ◌<◌}
 use Rattle.layout.specs.Columns.{column_node, ColumnFits}
 use Rattle.layout.specs.Nodes.{nodes_of}
 use Rattle.recording.proofs.recording.Recording.check_columns.Given as goal

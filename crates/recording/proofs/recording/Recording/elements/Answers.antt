@@ -1,4 +1,4 @@
-use Rattle.std.proofs.Common.{◌≡◌, ◌+◌, ◌-◌, ℕ, ap₂, arith}
+use Rattle.std.proofs.Common.{◌+◌, ◌-◌, ℕ, ap₂, arith}
 use Rattle.layout.specs.Nodes.{nodes_of}
 use Rattle.recording.specs.Windows.{window_at}
 use Rattle.recording.proofs.Windows.{elements_between, list_child, window_few}

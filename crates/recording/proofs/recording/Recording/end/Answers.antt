@@ -1,4 +1,4 @@
-use Rattle.std.proofs.Common.{◌≡◌, ℕ, ◌+◌, ◌<◌, ◌≤◌, sym, ap, subst, arith}
+use Rattle.std.proofs.Common.{ℕ, ◌+◌, sym, ap, subst, arith}
 use Rattle.layout.specs.declared.fault.Refusal.TheVariants.{Nesting}
 use Rattle.layout.specs.declared.node.Node.{Node}
 use Rattle.layout.specs.Nodes.{nodes_of}

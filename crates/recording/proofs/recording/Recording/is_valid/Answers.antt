@@ -1,4 +1,4 @@
-use Rattle.std.proofs.Common.{◌<◌, sym, ap, ◌∙◌, subst, arith}
+use Rattle.std.proofs.Common.{◌<◌, sym, subst, arith}
 use Rattle.layout.specs.declared.node.Node.{Node}
 use Rattle.layout.specs.Nodes.{nodes_of}
 use Rattle.recording.proofs.Reading.{few, mark_there}

@@ -1,11 +1,10 @@
-use Rattle.std.proofs.Common.{◌≡◌, ℕ, ◌+◌, ◌*◌, ◌<◌, ◌≤◌, is_some, Some, sym, ap, ◌∙◌, subst, inr, arith}
+use Rattle.std.proofs.Common.{ℕ, ◌+◌, ◌*◌, ◌<◌, is_some, sym, ap, ◌∙◌, subst, inr, arith}
 use Rattle.layout.specs.declared.node.Node.{Node}
-use Rattle.layout.specs.declared.number.Width.{Width}
 use Rattle.layout.specs.Lists.{cut}
 use Rattle.layout.specs.Nodes.{nodes_of}
-use Rattle.layout.specs.Numbers.{wide, width_of, unle, unsigned_at}
+use Rattle.layout.specs.Numbers.{unle, unsigned_at}
 use Rattle.layout.specs.Rows.{key_at}
-use Rattle.recording.proofs.Reading.{There, slot_there, width_there, width_size, key_below}
+use Rattle.recording.proofs.Reading.{slot_there, width_there, width_size, key_below}
 use Rattle.recording.proofs.recording.Recording.key.Goals as goal
 
 pub unwrap-width-requires : goal.unwrap-width-requires

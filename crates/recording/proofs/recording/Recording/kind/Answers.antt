@@ -1,4 +1,4 @@
-use Rattle.std.proofs.Common.{◌≡◌, is_some, sym, ap, ◌∙◌}
+use Rattle.std.proofs.Common.{is_some, sym, ap, ◌∙◌}
 use Rattle.layout.specs.declared.fault.Refusal.TheVariants.{KindOrSize}
 use Rattle.layout.specs.declared.node.Node.{Node}
 use Rattle.layout.specs.Kinds.{kind_of}

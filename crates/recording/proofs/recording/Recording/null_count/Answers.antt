@@ -24,7 +24,7 @@ count_zeros-requires c =
     let f : c.node-node.result.from ≡ (node_at (nodes_of s.nodes.now) c.args.w.node).from = ap (λ (n : Node). n.from) c.node-node.ensures.value in
     let marked = sym (c.in-Some.ensures ∙ ap bitmap_of c.node-node.ensures.value) in
     let l = marks_lie (nodes_of s.nodes.now) s.bytes.now s.opened c.args.w.node c.requires.stands c.kind.result c.in-Some.place c.args.w.first c.args.w.rows
-        c.kind.ensures c.if-not-has_bitmap.ensures marked c.requires.within
+    c.kind.ensures c.if-not-has_bitmap.ensures marked c.requires.within
     in (
       omega (arith, window_few (nodes_of s.nodes.now) s.bytes.now s.opened c.args.w.node c.requires.stands c.args.w.first c.args.w.rows c.requires.within),
       subst (λ (x : ℕ). c.in-Some.place + bytes_for (x + c.args.w.first + c.args.w.rows) ≤ length s.bytes.now) (sym f) l,

@@ -1,9 +1,8 @@
-use Rattle.std.proofs.Common.{◌≡◌, ℕ, ◌+◌, ◌*◌, ◌<◌, ◌≤◌, sym, ap, ◌∙◌, subst, arith}
-use Rattle.layout.specs.declared.kind.Kind.{Kind}
+use Rattle.std.proofs.Common.{ℕ, ◌+◌, ◌*◌, ◌<◌, ◌≤◌, sym, ap, ◌∙◌, subst, arith}
 use Rattle.layout.specs.declared.node.Node.{Node}
 use Rattle.layout.specs.Nodes.{nodes_of}
-use Rattle.layout.specs.Numbers.{wide, unsigned_at}
-use Rattle.recording.proofs.Reading.{There, offset_there, offset-is, offset-reach}
+use Rattle.layout.specs.Numbers.{unsigned_at}
+use Rattle.recording.proofs.Reading.{offset_there, offset-is, offset-reach}
 use Rattle.recording.proofs.recording.Recording.offset.Goals as goal
 
 pub slot_place-place-requires : goal.slot_place-place-requires

@@ -10,8 +10,8 @@ overflow_add-start c =
     let s = c.args.self.now in
     let is = c.requires.is in
     let l = string_lies (nodes_of s.nodes.now) s.bytes.now s.opened c.args.i c.requires.stands is.0 c.args.width c.args.r is.1 is.2 is.3 c.requires.row
-        c.node-data.result c.offset.result (offset_at s.bytes.now (wide c.args.width) (node_at (nodes_of s.nodes.now) c.args.i) (c.args.r + 1))
-        c.node-data.ensures.value c.offset.ensures.value refl
+    c.node-data.result c.offset.result (offset_at s.bytes.now (wide c.args.width) (node_at (nodes_of s.nodes.now) c.args.i) (c.args.r + 1))
+    c.node-data.ensures.value c.offset.ensures.value refl
     in
     omega (arith, l.ordered, l.within, s.opened.1)
 
@@ -25,7 +25,7 @@ overflow_add-end c =
     let s = c.args.self.now in
     let is = c.requires.is in
     let l = string_lies (nodes_of s.nodes.now) s.bytes.now s.opened c.args.i c.requires.stands is.0 c.args.width c.args.r is.1 is.2 is.3 c.requires.row
-        c.node-data.result c.offset.result c.offset-2.result c.node-data.ensures.value c.offset.ensures.value c.offset-2.ensures.value
+    c.node-data.result c.offset.result c.offset-2.result c.node-data.ensures.value c.offset.ensures.value c.offset-2.ensures.value
     in
     omega (arith, l.within, s.opened.1)
 
@@ -34,7 +34,7 @@ slice_bounds-result-count c =
     let s = c.args.self.now in
     let is = c.requires.is in
     let l = string_lies (nodes_of s.nodes.now) s.bytes.now s.opened c.args.i c.requires.stands is.0 c.args.width c.args.r is.1 is.2 is.3 c.requires.row
-        c.node-data.result c.offset.result c.offset-2.result c.node-data.ensures.value c.offset.ensures.value c.offset-2.ensures.value
+    c.node-data.result c.offset.result c.offset-2.result c.node-data.ensures.value c.offset.ensures.value c.offset-2.ensures.value
     in
     omega (arith, l.ordered)
 
@@ -43,7 +43,7 @@ slice_bounds-result-start c =
     let s = c.args.self.now in
     let is = c.requires.is in
     let l = string_lies (nodes_of s.nodes.now) s.bytes.now s.opened c.args.i c.requires.stands is.0 c.args.width c.args.r is.1 is.2 is.3 c.requires.row
-        c.node-data.result c.offset.result c.offset-2.result c.node-data.ensures.value c.offset.ensures.value c.offset-2.ensures.value
+    c.node-data.result c.offset.result c.offset-2.result c.node-data.ensures.value c.offset.ensures.value c.offset-2.ensures.value
     in
     omega (arith, l.ordered)
 
@@ -52,7 +52,7 @@ slice_bounds-result-end c =
     let s = c.args.self.now in
     let is = c.requires.is in
     let l = string_lies (nodes_of s.nodes.now) s.bytes.now s.opened c.args.i c.requires.stands is.0 c.args.width c.args.r is.1 is.2 is.3 c.requires.row
-        c.node-data.result c.offset.result c.offset-2.result c.node-data.ensures.value c.offset.ensures.value c.offset-2.ensures.value
+    c.node-data.result c.offset.result c.offset-2.result c.node-data.ensures.value c.offset.ensures.value c.offset-2.ensures.value
     in
     omega (arith, l.within)
 
