@@ -1,6 +1,5 @@
 -- The worked openings.
-use Rattle.std.proofs.Common.{◌≡◌, ℕ, zero, suc, ◌/◌, ◌%◌, ◌<◌, ◌≤◌, true, false, ◌⊎◌, List, [], ◌∷◌, length, refl, inl, inr, arith}
-use Rattle.layout.specs.declared.fault.Fault.{Fault}
+use Rattle.std.proofs.Common.{◌≡◌, ℕ, zero, suc, ◌/◌, ◌<◌, ◌≤◌, true, false, List, [], ◌∷◌, length, refl, inl, arith}
 use Rattle.layout.specs.declared.fault.Refusal.{Refusal}
 use Rattle.layout.specs.declared.fault.Refusal.TheVariants.{KindOrSize, Nesting, Place, Offset, Key}
 use Rattle.layout.specs.Faults.{refusal_number, fault_of}

@@ -1,6 +1,6 @@
 -- Openings worked out from the definitions.
 use Rattle.std.specs.Prelude.{ℕ, ◌-◌, ◌^◌, List, [], ◌∷◌, ◌++◌, Ok, Err}
-use Rattle.layout.specs.declared.fault.Refusal.TheVariants.{NodeBytes, KindOrSize, Nesting, Place, Offset, Key}
+use Rattle.layout.specs.declared.fault.Refusal.TheVariants.{NodeBytes, KindOrSize, Nesting, Place, Key}
 use Rattle.layout.specs.Faults.{fault_of}
 use Rattle.layout.specs.Numbers.{le}
 use Rattle.layout.specs.Opening.{Verdict}

@@ -4,11 +4,11 @@
 ghost use Rattle.cases.specs.Openings.{Openings};
 
 #[cfg(test)]
-mod openings;
-#[cfg(test)]
 mod options;
 #[cfg(test)]
 mod reading;
+#[cfg(test)]
+mod refusals;
 #[cfg(test)]
 mod table;
 

@@ -1,5 +1,5 @@
 //! The readers of an opened recording, on one of each kind.
-use crate::openings::{bytes, nodes, numbers};
+use crate::refusals::{bytes, nodes, numbers};
 use layout::{Kind, Width};
 use recording::Recording;
 use std::test::Fail;
