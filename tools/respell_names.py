@@ -14,18 +14,17 @@ DEFINED = re.compile(
     r"^ *(?:(?:abbrev|opaque|unfoldable|pub|instance)\s+)*([^\s:(){},.=|\[\]]+(?:\s+[^\s:(){},.=|\[\]]+)*?)\s*:\s+(\S.*)$"
 )
 NAME = re.compile(r"[a-z][A-Za-z0-9_'-]*$")
-TOKEN = re.compile(r"[A-Za-zℕ-][A-Za-z0-9_'ℕ≤*+-]*|[^A-Za-z]")
 WORDS = re.compile(r"(?<![\w'-])([a-z][A-Za-z0-9_'-]*)(?![\w'])")
-STD = "length append take drop map set replicate le all some".split()
+# The functions whose names a dash joins; beside any other word it becomes an underscore.
+JOINED = "length append take drop map cut put rows le le_all twos pack bit bits bytes nodes offsets offset_bytes total unle zeros number natural".split()
 # Names that would say the same as another one, and what stands for them.
 # A lemma that would have its function's name ends in `_lem`.
 BY_HAND = {
+    "bitmap-lies": "bitmap_lies_lem",
     "bits-at": "bits_at_lem",
     "data-lies": "data_lies_lem",
-    "end_to_end": "end_to_end_lem",
     "kind-of": "kind_of_lem",
     "mark-in": "mark_in_lem",
-    "offset_at": "offset_at_lem",
     "shapes-side": "shapes_side_lem",
     "stringBytes": "bytes_of_strings",
     "tabled-by": "tabled_by_lem",
@@ -34,6 +33,9 @@ BY_HAND = {
     "width-of": "width_of_lem",
     "zeros-in": "zeros_in_lem",
 }
+
+# The same, where the function's name comes to be that of the lemma.
+GIVES_WAY = {"end_to_end": "endToEnd", "offset_at": "offsetAt"}
 
 
 def files():
@@ -78,7 +80,6 @@ def plan():
                     goals.add(name)
                 else:
                     own.setdefault(name, set()).add(path)
-    functions = {snake(n) for n, where in own.items() if any("/specs/" in w for w in where)} | set(STD)
     new = {}
     for name in sorted(own):
         if name in goals:
@@ -86,8 +87,11 @@ def plan():
         if name in BY_HAND:
             new[name] = BY_HAND[name]
             continue
+        if GIVES_WAY.get(name) in own:
+            new[name] = name + "_lem"
+            continue
         parts = [snake(p) for p in name.split("-")]
-        joined = "-" if len(parts) == 2 and all(p in functions for p in parts) else "_"
+        joined = "-" if len(parts) == 2 and all(p in JOINED for p in parts) else "_"
         to = joined.join(parts)
         if to != name:
             new[name] = to

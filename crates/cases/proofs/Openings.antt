@@ -6,7 +6,7 @@ use Rattle.layout.specs.Faults.{refusal_number, fault_of}
 use Rattle.layout.specs.Nodes.{node_in, nodes_of, depth_of}
 use Rattle.layout.specs.Tests.{kids, shaped_as, placed_as, rises_to, keyed_below, holds, sound}
 use Rattle.layout.specs.Opening.{WholeNodes, NotTooLarge, Refused, Sound}
-use Rattle.layout.proofs.Opening.{below_4, below_next, sound-holds, ends_ok, ends_broken}
+use Rattle.layout.proofs.Opening.{below_4, below_next, sound_holds, ends_ok, ends_broken}
 use Rattle.cases.specs.Openings.{dictionary, strings, bytes_of_strings, eights, Openings}
 
 -- the first node breaks a rule
@@ -31,15 +31,15 @@ one : (nb bs : List ℕ) → WholeNodes nb → NotTooLarge nb bs → length nb /
 one nb bs w s n a = ends_ok nb bs w s 1 (omega arith) go
   where
     go : (i : ℕ) → i < 1 → (r : Refusal) → holds r (nodes_of nb) bs i ≡ true
-    go zero l = sound-holds (nodes_of nb) bs 0 a
+    go zero l = sound_holds (nodes_of nb) bs 0 a
     go (suc i) l = absurd (omega arith)
 
 two : (nb bs : List ℕ) → WholeNodes nb → NotTooLarge nb bs → length nb / 80 ≡ 2 → sound (nodes_of nb) bs 0 ≡ true → sound (nodes_of nb) bs 1 ≡ true → Sound nb bs
 two nb bs w s n a b = ends_ok nb bs w s 2 (omega arith) go
   where
     go : (i : ℕ) → i < 2 → (r : Refusal) → holds r (nodes_of nb) bs i ≡ true
-    go zero l = sound-holds (nodes_of nb) bs 0 a
-    go (suc zero) l = sound-holds (nodes_of nb) bs 1 b
+    go zero l = sound_holds (nodes_of nb) bs 0 a
+    go (suc zero) l = sound_holds (nodes_of nb) bs 1 b
     go (suc (suc i)) l = absurd (omega arith)
 
 few : (nb bs : List ℕ) → length nb / 80 ≤ 65535 → length bs ≤ 4294967295 → NotTooLarge nb bs

@@ -10,7 +10,7 @@ use Rattle.laws.proofs.Good.{Each}
 use mir.Val.{bool_byte}
 use Rattle.layout.proofs.Lists.{get_or_rows, length-rows}
 use Rattle.layout.proofs.Numbers.{length-le, unle-le}
-use Rattle.laws.proofs.Lists.{cut-fixed}
+use Rattle.laws.proofs.Lists.{cut_fixed}
 
 -- ---- bits
 
@@ -74,4 +74,4 @@ le_at w (n ∷ ns) (suc r) h = le_at w ns r (le_of_suc-le-suc h)
 
 pub number_at : (w : ℕ) (ns : List ℕ) (r : ℕ) → 2 * get_or ns r 0 < 256 ^ w → r < length ns → number (cut (r * w) w (le_all w ns)) ≡ get_or ns r 0
 number_at w ns r g h =
-    ap number (cut-fixed w (map (le w) ns) r (each_le w ns) (simp length-map h) ∙ le_at w ns r h) ∙ number-le w (get_or ns r 0) g
+    ap number (cut_fixed w (map (le w) ns) r (each_le w ns) (simp length-map h) ∙ le_at w ns r h) ∙ number-le w (get_or ns r 0) g

@@ -18,5 +18,5 @@ parts_from al pre at (b ∷ bs) e =
     (ap (λ (x : List ℕ). parts x (records al (at + padded al (length b)) bs)) whole
     ∙ parts_from al (pre ++ (b ++ z)) (at + padded al (length b)) bs l)
 
-pub parts-records : (al : ℕ) (bs : List (List ℕ)) → parts (body al bs) (records al 0 bs) ≡ bs
-parts-records al bs = parts_from al [] 0 bs refl
+pub parts_records : (al : ℕ) (bs : List (List ℕ)) → parts (body al bs) (records al 0 bs) ≡ bs
+parts_records al bs = parts_from al [] 0 bs refl

@@ -10,11 +10,11 @@ lengths_are : (al at : ℕ) (bs : List (List ℕ)) → map (λ (r : BufferRecord
 lengths_are al at [] = refl
 lengths_are al at (b ∷ bs) = ap {B = List ℕ} (λ ns. length b ∷ ns) (lengths_are al (at + padded al (length b)) bs)
 
-offset-is : (al at : ℕ) (bs : List (List ℕ)) (k : ℕ) (d : BufferRecord) → k < length bs
+offset_is : (al at : ℕ) (bs : List (List ℕ)) (k : ℕ) (d : BufferRecord) → k < length bs
     → (get_or (records al at bs) k d).offset ≡ at + total (take k (padded_lengths al (records al at bs)))
-offset-is al at [] k d h = absurd (not-suc-le-zero h)
-offset-is al at (b ∷ bs) zero d h = omega arith
-offset-is al at (b ∷ bs) (suc k) d h = offset-is al (at + padded al (length b)) bs k d (le_of_suc-le-suc h) ∙ omega arith
+offset_is al at [] k d h = absurd (not-suc-le-zero h)
+offset_is al at (b ∷ bs) zero d h = omega arith
+offset_is al at (b ∷ bs) (suc k) d h = offset_is al (at + padded al (length b)) bs k d (le_of_suc-le-suc h) ∙ omega arith
 
 whole_is : (al at : ℕ) (bs : List (List ℕ)) → length (body al bs) ≡ total (padded_lengths al (records al at bs))
 whole_is al at [] = refl
@@ -42,27 +42,27 @@ paddings al n p =
         record { multiple = ap (λ (x : ℕ). x % al) s ∙ add-mod_right (al * (n / al)) al ∙ mul-mod_right al (n / al); long = omega arith; least = omega (arith, mod-lt (al - n % al) p) }
 
 -- a later buffer starts after an earlier one ends
-apart-is : (al at : ℕ) (bs : List (List ℕ)) (k j : ℕ) (d : BufferRecord) → k < j → j < length bs
+apart_is : (al at : ℕ) (bs : List (List ℕ)) (k j : ℕ) (d : BufferRecord) → k < j → j < length bs
     → (get_or (records al at bs) k d).offset + (get_or (records al at bs) k d).length ≤ (get_or (records al at bs) j d).offset
-apart-is al at [] k j d l h = absurd (not-suc-le-zero h)
-apart-is al at (b ∷ bs) k zero d l h = absurd (not-suc-le-zero l)
-apart-is al at (b ∷ bs) zero (suc j) d l h = omega (arith, offset-is al (at + padded al (length b)) bs j d (le_of_suc-le-suc h))
-apart-is al at (b ∷ bs) (suc k) (suc j) d l h = apart-is al (at + padded al (length b)) bs k j d (le_of_suc-le-suc l) (le_of_suc-le-suc h)
+apart_is al at [] k j d l h = absurd (not-suc-le-zero h)
+apart_is al at (b ∷ bs) k zero d l h = absurd (not-suc-le-zero l)
+apart_is al at (b ∷ bs) zero (suc j) d l h = omega (arith, offset_is al (at + padded al (length b)) bs j d (le_of_suc-le-suc h))
+apart_is al at (b ∷ bs) (suc k) (suc j) d l h = apart_is al (at + padded al (length b)) bs k j d (le_of_suc-le-suc l) (le_of_suc-le-suc h)
 
-last-is : (al at : ℕ) (bs : List (List ℕ)) (k : ℕ) (d : BufferRecord) → suc k ≡ length bs
+last_is : (al at : ℕ) (bs : List (List ℕ)) (k : ℕ) (d : BufferRecord) → suc k ≡ length bs
     → (get_or (records al at bs) k d).offset + padded al (get_or (records al at bs) k d).length ≡ at + length (body al bs)
-last-is al at [] k d h = absurd (omega arith)
-last-is al at (b ∷ []) zero d h = simp (length-append, length-replicate) (omega arith)
-last-is al at (b ∷ []) (suc k) d h = absurd (omega arith)
-last-is al at (b ∷ (e ∷ bs)) zero d h = absurd (omega arith)
-last-is al at (b ∷ (e ∷ bs)) (suc k) d h =
-    last-is al (at + padded al (length b)) (e ∷ bs) k d (omega arith) ∙ simp (length-append, length-replicate) (omega arith)
+last_is al at [] k d h = absurd (omega arith)
+last_is al at (b ∷ []) zero d h = simp (length-append, length-replicate) (omega arith)
+last_is al at (b ∷ []) (suc k) d h = absurd (omega arith)
+last_is al at (b ∷ (e ∷ bs)) zero d h = absurd (omega arith)
+last_is al at (b ∷ (e ∷ bs)) (suc k) d h =
+    last_is al (at + padded al (length b)) (e ∷ bs) k d (omega arith) ∙ simp (length-append, length-replicate) (omega arith)
 
 pub end_to_end_lem : (al : ℕ) (bs : List (List ℕ)) → EndToEnd al bs
 end_to_end_lem al bs = record {
   lengths = lengths_are al 0 bs;
-  offset = λ k d h. offset-is al 0 bs k d h ∙ omega arith;
-  apart = apart-is al 0 bs;
-  last = λ k d h. last-is al 0 bs k d h ∙ omega arith;
+  offset = λ k d h. offset_is al 0 bs k d h ∙ omega arith;
+  apart = apart_is al 0 bs;
+  last = λ k d h. last_is al 0 bs k d h ∙ omega arith;
   whole = whole_is al 0 bs;
 }

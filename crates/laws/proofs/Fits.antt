@@ -55,13 +55,13 @@ mutual
   field_count bs (Tree.fixed n) a c = refl
   field_count bs (Tree.bytes w n) a c = refl
   field_count bs (Tree.lists w n t) a c = ap suc (field_count bs t (passed_first bs w n a c) (passed_count bs w n a c))
-  field_count bs (Tree.struct n f) a c = ap suc (fields-count bs f a c)
+  field_count bs (Tree.struct n f) a c = ap suc (fields_count bs f a c)
   field_count bs (Tree.dictionary n t) a c = refl
 
-  fields-count : (bs : List ℕ) (f : Forest) (a c : ℕ) → length (fields_all (shown_all bs f a c)) ≡ forest_size f
-  fields-count bs Forest.none a c = refl
-  fields-count bs (Forest.more t f) a c =
-      length-append (fields (shown bs t a c)) (fields_all (shown_all bs f a c)) ∙ ap₂ (λ (x y : ℕ). x + y) (field_count bs t a c) (fields-count bs f a c)
+  fields_count : (bs : List ℕ) (f : Forest) (a c : ℕ) → length (fields_all (shown_all bs f a c)) ≡ forest_size f
+  fields_count bs Forest.none a c = refl
+  fields_count bs (Forest.more t f) a c =
+      length-append (fields (shown bs t a c)) (fields_all (shown_all bs f a c)) ∙ ap₂ (λ (x y : ℕ). x + y) (field_count bs t a c) (fields_count bs f a c)
 
 module _ (ns : List Node) (bs : List ℕ) (kept : Kept ns bs) where
   one_size : (i : ℕ) (k : Kind) → i < length ns → Is (node_at ns i) k → ((c : ℕ) → ChildrenFit k c → c ≡ 1)
@@ -112,26 +112,26 @@ module _ (ns : List Node) (bs : List ℕ) (kept : Kept ns bs) where
       omega (arith, size_by i l, nest.some)
 
 -- columns side by side have no more fields than there are nodes
-columns-count : (ns : List Node) (bs : List ℕ) (cs : List ℕ) (p e a n : ℕ) → SideBySide ns p cs e → EachInside (columns_of ns bs cs a n) → p + length (fields_all (shown_side (columns_of ns bs cs a n))) ≤ e
+columns_count : (ns : List Node) (bs : List ℕ) (cs : List ℕ) (p e a n : ℕ) → SideBySide ns p cs e → EachInside (columns_of ns bs cs a n) → p + length (fields_all (shown_side (columns_of ns bs cs a n))) ≤ e
 unfolding fields
-columns-count ns bs [] p e a n s g = omega arith
-columns-count ns bs (c ∷ cs) p e a n s g =
+columns_count ns bs [] p e a n s g = omega arith
+columns_count ns bs (c ∷ cs) p e a n s g =
     let few = tree_size_lem ns bs g.0.opened c g.0.stands in
     let here = field_count bs (tree_at ns c) a n in
-    let rest = columns-count ns bs cs (end_of ns p) e a n s.2 g.1 in
+    let rest = columns_count ns bs cs (end_of ns p) e a n s.2 g.1 in
     let same : (node_at ns c).span ≡ (node_at ns p).span = ap (λ (k : ℕ). (node_at ns k).span) s.0 in
     simp length-append (omega arith)
 
 -- ---- fields
 
-zeros-few : (xs : List Bool) → zeros xs ≤ length xs
-zeros-few [] = omega arith
-zeros-few (true ∷ xs) = omega (arith, zeros-few xs)
-zeros-few (false ∷ xs) = omega (arith, zeros-few xs)
+zeros_few : (xs : List Bool) → zeros xs ≤ length xs
+zeros_few [] = omega arith
+zeros_few (true ∷ xs) = omega (arith, zeros_few xs)
+zeros_few (false ∷ xs) = omega (arith, zeros_few xs)
 
-nulls-few : (bs : List ℕ) (o : Option ℕ) (a c : ℕ) → null_count (marks_in bs o a c) ≤ c
-nulls-few bs None a c = omega arith
-nulls-few bs (Some p) a c = let f = λ (r : ℕ). bit_at (drop p bs) (a + r) in omega (arith, zeros-few (rows c f), length-rows c f)
+nulls_few : (bs : List ℕ) (o : Option ℕ) (a c : ℕ) → null_count (marks_in bs o a c) ≤ c
+nulls_few bs None a c = omega arith
+nulls_few bs (Some p) a c = let f = λ (r : ℕ). bit_at (drop p bs) (a + r) in omega (arith, zeros_few (rows c f), length-rows c f)
 
 fields_add : (xs ys : List FieldRecord) → FieldsFit xs → FieldsFit ys → FieldsFit (xs ++ ys)
 fields_add [] ys g h = h
@@ -139,7 +139,7 @@ fields_add (x ∷ xs) ys g h = (g.0, g.1, fields_add xs ys g.2 h)
 
 -- a node's own field
 own_fits : (bs : List ℕ) (n : Node) (a c k : ℕ) → k ≡ c → n.from + n.rows ≤ 2147483647 → a + c ≤ n.rows → (k ≤ 2147483647) × (null_count (marks_at bs n a c) ≤ k)
-own_fits bs n a c k e l m = (omega arith, omega (arith, nulls-few bs (bitmap_of n) (n.from + a) c))
+own_fits bs n a c k e l m = (omega arith, omega (arith, nulls_few bs (bitmap_of n) (n.from + a) c))
 
 mutual
   unfolding fields shown
@@ -228,7 +228,7 @@ sizes = record { end_to_end = end_to_end_lem; padded = paddings; numbers = numbe
         → EachInside (columns_of ns bs cs a n) → length bs ≤ 4294967295 → length ns ≤ 65535 → NumbersFit al (shown_side (columns_of ns bs cs a n))
     fits al ns bs p e cs a n lo hi s l g small few =
         let ss = shown_side (columns_of ns bs cs a n) in
-        let count = columns-count ns bs cs p e a n s g in
+        let count = columns_count ns bs cs p e a n s g in
         let entries = entries_all ss in
         let long = body_short al (length bs) (buffers_all ss) lo hi (side_bounded ns bs cs a n g) in
         let fit : length (body_of al ss) < 2 ^ 63 = body_fits (length (buffers_all ss)) (length bs) (length (body_of al ss)) (omega arith) small long in

@@ -63,8 +63,8 @@ each_total w (v ∷ vs) (suc r) g h =
     (omega (arith, suc-mul r w, g.0), p.1)
 
 -- items of one length
-pub cut-fixed : (w : ℕ) (vs : List (List ℕ)) (r : ℕ) → Each w vs → r < length vs → cut (r * w) w (join_all vs) ≡ get_or vs r []
-cut-fixed w vs r g h =
+pub cut_fixed : (w : ℕ) (vs : List (List ℕ)) (r : ℕ) → Each w vs → r < length vs → cut (r * w) w (join_all vs) ≡ get_or vs r []
+cut_fixed w vs r g h =
     let p : (total (take r (map length vs)) ≡ r * w) × (length (get_or vs r []) ≡ w) = each_total w vs r g h in
     ap₂ (λ (a c : ℕ). cut a c (join_all vs)) (sym p.0) (sym p.1) ∙ join_at vs r h
 

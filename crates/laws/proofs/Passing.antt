@@ -85,9 +85,9 @@ module _ (w : Window) (g : Inside w) where
   stands_at : (c : ℕ) → ChildOf ns i c → c < length ns
   stands_at c h = omega (arith, h.1, nest.within)
 
-  list-within : (v c : ℕ) → Rising w.bytes v (top_in w) (node_at ns (i + 1)).rows → c ≡ i + 1
+  list_within : (v c : ℕ) → Rising w.bytes v (top_in w) (node_at ns (i + 1)).rows → c ≡ i + 1
       → passed_first w.bytes v (top_in w) w.first w.rows + passed_count w.bytes v (top_in w) w.first w.rows ≤ (node_at ns c).rows
-  list-within v c r e =
+  list_within v c r e =
       let q : (node_at ns c).rows ≡ (node_at ns (i + 1)).rows = ap (λ (x : ℕ). (node_at ns x).rows) e in
       omega (arith, passed w.bytes v (top_in w) (node_at ns (i + 1)).rows r w.first w.rows g.within)
 
@@ -99,10 +99,10 @@ module _ (w : Window) (g : Inside w) where
   inside_as Bytes64 c is h = absurd (no_child ns i c Bytes64 nest is (λ m e. e) h)
   inside_as List32 c is h =
       let r = kept_rule ns w.bytes g.opened i g.stands Offset List32 Four is refl in
-      record { opened = g.opened; stands = stands_at c h; within = list-within 4 c r (only_child ns i c List32 nest is (λ m e. e) h) }
+      record { opened = g.opened; stands = stands_at c h; within = list_within 4 c r (only_child ns i c List32 nest is (λ m e. e) h) }
   inside_as List64 c is h =
       let r = kept_rule ns w.bytes g.opened i g.stands Offset List64 Eight is refl in
-      record { opened = g.opened; stands = stands_at c h; within = list-within 8 c r (only_child ns i c List64 nest is (λ m e. e) h) }
+      record { opened = g.opened; stands = stands_at c h; within = list_within 8 c r (only_child ns i c List64 nest is (λ m e. e) h) }
   inside_as Struct c is h = record { opened = g.opened; stands = stands_at c h; within = omega (arith, (child_facts ns i c nest h).rows is, g.within) }
   inside_as Dictionary c is h = record { opened = g.opened; stands = stands_at c h; within = omega arith }
 

@@ -93,8 +93,8 @@ module _ (bs : List ℕ) (a q : ℕ) (z : a % 8 ≡ 0) (g : Below 256 bs) where
       ap₂ (λ (x y : ℕ). bit_of (get_or bs x 0) y) d e))
       ∙ byte_is 8 (get_or bs (a / 8 + i) 0) (below_at 256 bs (a / 8 + i) (omega arith) g)
 
-  whole-bytes : a / 8 + q ≤ length bs → pack (rows (8 * q) (λ r. bit_at bs (a + r))) ≡ cut (a / 8) q bs
-  whole-bytes l =
+  whole_bytes : a / 8 + q ≤ length bs → pack (rows (8 * q) (λ r. bit_at bs (a + r))) ≡ cut (a / 8) q bs
+  whole_bytes l =
       let m : length (rows (8 * q) (λ r. bit_at bs (a + r))) ≡ 8 * q = length-rows (8 * q) (λ r. bit_at bs (a + r)) in
       let k : bytes_for (length (rows (8 * q) (λ r. bit_at bs (a + r)))) ≡ q = omega arith in
       let c : length (cut (a / 8) q bs) ≡ q = length_cut (a / 8) q bs l in
@@ -129,15 +129,15 @@ module _ (bs : List ℕ) (a c : ℕ) where
       ∙ rows_add c (8 * bytes_for c - c) (λ r. bit_at bs (a + r))
       ∙ ap (λ (x : ℕ). rows x (λ r. bit_at bs (a + r))) e
 
-  pub bits-made : BitsMade bs a c
-  bits-made = record {
+  pub bits_made : BitsMade bs a c
+  bits_made = record {
     size = size_by (eqb (a % 8) 0);
     bit = λ r l. bits_at_lem (bits_at bs a c) r (omega (arith, length-rows c (λ i. bit_at bs (a + i)))) ∙ get_or_rows c (λ i. bit_at bs (a + i)) r false l;
     clear = λ p r l.
         ap (λ (t : Bool). bit_at (pack (all_bits t)) r) (ne_eqb (a % 8) 0 (λ e. omega arith))
         ∙ past_bit (all_bits false) r (omega (arith, length-bits false));
     unchanged = λ z g l.
-        ap (λ (t : Bool). pack (all_bits t)) (eq-eqb (a % 8) 0 z) ∙ ap pack joined ∙ whole-bytes bs a (bytes_for c) z g l;
+        ap (λ (t : Bool). pack (all_bits t)) (eq-eqb (a % 8) 0 z) ∙ ap pack joined ∙ whole_bytes bs a (bytes_for c) z g l;
   }
 
 -- ---- what is copied, and the offsets that are made
@@ -206,4 +206,4 @@ module _ (bs : List ℕ) (w : ℕ) (n : Node) (a c : ℕ) where
             ap (λ (k : ℕ). offset_at bs w n k - offset_at bs w n (a + i)) e ∙ omega arith
 
 pub places : Places
-places = record { bits = bits-made; copied = λ bs w n a c. record { slots = slots_joined bs w n a c; offsets = offsets_are bs w n a c; strings = strings_joined bs w n a c } }
+places = record { bits = bits_made; copied = λ bs w n a c. record { slots = slots_joined bs w n a c; offsets = offsets_are bs w n a c; strings = strings_joined bs w n a c } }

@@ -9,9 +9,9 @@ use Rattle.layout.specs.Shown.{Bits, Marks, all, some, Shown, Showns, nulls, boo
 use Rattle.layout.specs.Messages.{FieldRecord, bit_bytes, mark_bytes, offsets, offset_bytes, fields, fields_all, buffers, buffers_all, records_of, body_of}
 use Rattle.layout.specs.Reading.{Got, GotAll, valid, slot_in, offset_in, between, decode, decode_all, parts}
 use Rattle.layout.proofs.Lists.{rows_same}
-use Rattle.laws.proofs.Lists.{map-append, get_or_front, join_at, cut-fixed, total-take, total_next}
+use Rattle.laws.proofs.Lists.{map-append, get_or_front, join_at, cut_fixed, total-take, total_next}
 use Rattle.laws.proofs.Bits.{pack-bit, length-pack, no_zeros, number_at}
-use Rattle.laws.proofs.Body.{parts-records}
+use Rattle.laws.proofs.Body.{parts_records}
 
 -- ---- validity
 
@@ -27,16 +27,16 @@ tested b r false z h =
     let e : eqb (length (bit_bytes b)) 0 ≡ false = ne_eqb (length (bit_bytes b)) 0 (λ x. omega arith) in
     ap (λ (x : Bool). cond x true (bit_at (bit_bytes b) r)) e ∙ bits_at_lem b r h
 
-valid-marked : (n : ℕ) (m : Marks) (r : ℕ) → Marked m n → r < n → valid (mark_bytes m) r ≡ marked m r
-valid-marked n all r g h = refl
-valid-marked n (some b) r g h = tested b r (eqb (zeros b.bits) 0) refl (omega arith)
+valid_marked : (n : ℕ) (m : Marks) (r : ℕ) → Marked m n → r < n → valid (mark_bytes m) r ≡ marked m r
+valid_marked n all r g h = refl
+valid_marked n (some b) r g h = tested b r (eqb (zeros b.bits) 0) refl (omega arith)
 
 -- two columns are one where their rows are
-column-same : (n : ℕ) (m : Marks) (f g : ℕ → Value) → Marked m n → ((r : ℕ) → r < n → f r ≡ g r)
+column_same : (n : ℕ) (m : Marks) (f g : ℕ → Value) → Marked m n → ((r : ℕ) → r < n → f r ≡ g r)
     → column n (valid (mark_bytes m)) f ≡ column n (marked m) g
-column-same n m f g k h =
+column_same n m f g k h =
     rows_same n (λ r. cond (valid (mark_bytes m) r) (f r) null) (λ r. cond (marked m r) (g r) null)
-    (λ r l. ap₂ (λ (b : Bool) (v : Value). cond b v null) (valid-marked n m r k l) (h r l))
+    (λ r l. ap₂ (λ (b : Bool) (v : Value). cond b v null) (valid_marked n m r k l) (h r l))
 
 -- ---- offsets
 
@@ -83,13 +83,13 @@ mutual
   reads (nulls l n) ds fs bs g = refl
   reads (bools l m b) ds fs bs g =
       got ds fs bs
-      (column-same (length b.bits) m (λ r. Value.bit (bit_at (bit_bytes b) r)) (λ r. Value.bit (get_or b.bits r false)) g (λ r h. ap Value.bit (bits_at_lem b r h)))
+      (column_same (length b.bits) m (λ r. Value.bit (bit_at (bit_bytes b) r)) (λ r. Value.bit (get_or b.bits r false)) g (λ r h. ap Value.bit (bits_at_lem b r h)))
   reads (fixed l w m vs) ds fs bs g =
       got ds fs bs
-      (column-same (length vs) m (λ r. Value.bytes (slot_in w (join_all vs) r)) (λ r. Value.bytes (get_or vs r [])) g.0 (λ r h. ap Value.bytes (cut-fixed w vs r g.1 h)))
+      (column_same (length vs) m (λ r. Value.bytes (slot_in w (join_all vs) r)) (λ r. Value.bytes (get_or vs r [])) g.0 (λ r h. ap Value.bytes (cut_fixed w vs r g.1 h)))
   reads (bytes l w m vs) ds fs bs g =
       got ds fs bs
-      (column-same (length vs) m (λ r. Value.bytes (between w (offset_bytes w (lengths vs)) r (join_all vs))) (λ r. Value.bytes (get_or vs r [])) g.0
+      (column_same (length vs) m (λ r. Value.bytes (between w (offset_bytes w (lengths vs)) r (join_all vs))) (λ r. Value.bytes (get_or vs r [])) g.0
       (λ r h. ap Value.bytes (item w vs r g.1 h)))
   reads (lists l w m cs s) ds fs bs g =
       let step : Got → Got = λ x.
@@ -101,7 +101,7 @@ mutual
       } in
       ap step (reads s ds fs bs g.2)
       ∙ got ds fs bs
-      (column-same (length cs) m
+      (column_same (length cs) m
       (λ r. Value.list (held (between w (offset_bytes w cs) r (values s))))
       (λ r. Value.list (held (cut (total (take r cs)) (get_or cs r 0) (values s)))) g.0
       (λ r h. ap (λ (vs : List Value). Value.list (held vs)) (between_is w cs r (values s) g.1 h)))
@@ -109,11 +109,11 @@ mutual
       let step : GotAll → Got = λ x.
       record { values = column n (valid (mark_bytes m)) (λ r. Value.struct (held (across r x.columns))); ids = x.ids; fields = x.fields; buffers = x.buffers } in
       ap step (reads_all ss ds fs bs g.1)
-      ∙ got ds fs bs (column-same n m (λ r. Value.struct (held (across r (values_all ss)))) (λ r. Value.struct (held (across r (values_all ss)))) g.0 (λ r h. refl))
+      ∙ got ds fs bs (column_same n m (λ r. Value.struct (held (across r (values_all ss)))) (λ r. Value.struct (held (across r (values_all ss)))) g.0 (λ r h. refl))
   reads (dictionary l w m ks s) ds fs bs g =
       got ds fs bs
-      (column-same (length ks) m (λ r. named (values s) (slot_in w (join_all ks) r)) (λ r. named (values s) (get_or ks r [])) g.0
-      (λ r h. ap (named (values s)) (cut-fixed w ks r g.1 h)))
+      (column_same (length ks) m (λ r. named (values s) (slot_in w (join_all ks) r)) (λ r. named (values s) (get_or ks r [])) g.0
+      (λ r h. ap (named (values s)) (cut_fixed w ks r g.1 h)))
 
   pub reads_all : (ss : Showns) (ds : List (List Value)) (fs : List FieldRecord) (bs : List (List ℕ)) → GoodAll ss
       → decode_all (shapes ss) (map values (met_all ss) ++ ds) (fields_all ss ++ fs) (buffers_all ss ++ bs) ≡ record { columns = values_all ss; ids = ds; fields = fs; buffers = bs }
@@ -135,6 +135,6 @@ pub read_back : (al : ℕ) (ss : Showns) (rest : List (List Value)) → GoodAll 
     → decode_all (shapes ss) (map values (met_all ss) ++ rest) (fields_all ss) (parts (body_of al ss) (records_of al ss))
     ≡ record { columns = values_all ss; ids = rest; fields = []; buffers = [] }
 read_back al ss rest g =
-    ap (decode_all (shapes ss) (map values (met_all ss) ++ rest) (fields_all ss)) (parts-records al (buffers_all ss))
+    ap (decode_all (shapes ss) (map values (met_all ss) ++ rest) (fields_all ss)) (parts_records al (buffers_all ss))
     ∙ ap₂ (decode_all (shapes ss) (map values (met_all ss) ++ rest)) (sym (append-nil (fields_all ss))) (sym (append-nil (buffers_all ss)))
     ∙ reads_all ss rest [] [] g

@@ -133,8 +133,8 @@ module _ (bs : List ℕ) (n : Node) (a c : ℕ) where
   fit : {X : Type 0} (f : ℕ → X) → Marked (marks_at bs n a c) (length (rows c f))
   fit f = subst (λ (k : ℕ). Marked (marks_at bs n a c) k) (sym (length-rows c f)) marks_fit
 
-  mark-is : (r : ℕ) → r < c → marked (marks_at bs n a c) r ≡ mark_at bs n (a + r)
-  mark-is r l = mark_in_lem bs (bitmap_of n) (n.from + a) c r l ∙ ap (mark_in bs (bitmap_of n)) (add_assoc n.from a r)
+  mark_is : (r : ℕ) → r < c → marked (marks_at bs n a c) r ≡ mark_at bs n (a + r)
+  mark_is r l = mark_in_lem bs (bitmap_of n) (n.from + a) c r l ∙ ap (mark_in bs (bitmap_of n)) (add_assoc n.from a r)
 
   -- a column of c rows by the marks at row a: the rest only matters in valid rows
   column_at : (k : ℕ) (f g : ℕ → Value) → k ≡ c → ((r : ℕ) → r < c → mark_at bs n (a + r) ≡ true → f r ≡ g r)
@@ -142,7 +142,7 @@ module _ (bs : List ℕ) (n : Node) (a c : ℕ) where
   column_at k f g e h =
       ap (λ (x : ℕ). column x (marked (marks_at bs n a c)) f) e
       ∙ rows_same c (λ r. cond (marked (marks_at bs n a c) r) (f r) null) (λ r. cond (mark_at bs n (a + r)) (g r) null)
-      (λ r l. ap (λ (b : Bool). cond b (f r) null) (mark-is r l) ∙ when (mark_at bs n (a + r)) r refl l)
+      (λ r l. ap (λ (b : Bool). cond b (f r) null) (mark_is r l) ∙ when (mark_at bs n (a + r)) r refl l)
     where
       when : (b : Bool) (r : ℕ) → mark_at bs n (a + r) ≡ b → r < c → cond b (f r) null ≡ cond b (g r) null
       when true r e l = h r l e
@@ -198,9 +198,9 @@ mutual
 
 -- ---- its values are the recording's, row by row
 
-null-rows : (c : ℕ) → replicate c null ≡ rows c (λ r. null)
-null-rows zero = refl
-null-rows (suc c) = ap {B = List Value} (λ vs. null ∷ vs) (null-rows c)
+null_rows : (c : ℕ) → replicate c null ≡ rows c (λ r. null)
+null_rows zero = refl
+null_rows (suc c) = ap {B = List Value} (λ vs. null ∷ vs) (null_rows c)
 
 -- the items of row a + r, in the values of the window passed
 inner : (bs : List ℕ) (w : ℕ) (n : Node) (t : Tree) (h : Rising bs w n (rows_of t)) (a c : ℕ) (l : a + c ≤ n.rows) (vs : List Value)
@@ -223,8 +223,8 @@ inner bs w n t h a (suc d) l vs e r m =
     (λ i j. let z : offset_at bs w n a + (k + i) ≡ offset_at bs w n (a + r) + i = omega arith in ap (value_at bs t) z)
 
 -- the value that the key of a valid row names
-named-is : (bs : List ℕ) (t : Tree) (k : List ℕ) (vs : List Value) → vs ≡ rows (rows_of t) (λ r. value_at bs t (0 + r)) → natural k ≡ true → unle k < rows_of t → named vs k ≡ value_at bs t (unle k)
-named-is bs t k vs e p l =
+named_is : (bs : List ℕ) (t : Tree) (k : List ℕ) (vs : List Value) → vs ≡ rows (rows_of t) (λ r. value_at bs t (0 + r)) → natural k ≡ true → unle k < rows_of t → named vs k ≡ value_at bs t (unle k)
+named_is bs t k vs e p l =
     let z : 0 + unle k ≡ unle k = omega arith in
     ap₂ (λ (b : Bool) (xs : List Value). cond b (get_or xs (unle k) null) null) p e
     ∙ get_or_rows (rows_of t) (λ r. value_at bs t (0 + r)) (unle k) null l ∙ ap (value_at bs t) z
@@ -233,7 +233,7 @@ mutual
   unfolding values shown value_at
 
   pub says_of : (bs : List ℕ) (t : Tree) (a c : ℕ) → Opened bs t → a + c ≤ rows_of t → values (shown bs t a c) ≡ rows c (λ r. value_at bs t (a + r))
-  says_of bs (nulls n) a c g l = null-rows c
+  says_of bs (nulls n) a c g l = null_rows c
   says_of bs (bools n) a c g l =
       column_at bs n a c (length (rows c (λ r. bit_at (drop n.slots bs) (n.from + a + r)))) (λ r. Value.bit (get_or (rows c (λ i. bit_at (drop n.slots bs) (n.from + a + i))) r false)) (λ r. Value.bit (flag_at bs n (a + r)))
       (length-rows c (λ r. bit_at (drop n.slots bs) (n.from + a + r)))
@@ -261,7 +261,7 @@ mutual
       column_at bs n a c (length (rows c (λ r. key_at bs n (a + r)))) (λ r. named (values s) (get_or (rows c (λ i. key_at bs n (a + i))) r [])) (λ r. value_at bs t (unle (key_at bs n (a + r))))
       (length-rows c (λ r. key_at bs n (a + r)))
       (λ r m v. ap (named (values s)) (get_or_rows c (λ i. key_at bs n (a + i)) r [] m)
-      ∙ named-is bs t (key_at bs n (a + r)) (values s) (says_of bs t 0 (rows_of t) g.1 (omega arith))
+      ∙ named_is bs t (key_at bs n (a + r)) (values s) (says_of bs t 0 (rows_of t) g.1 (omega arith))
       (g.0.2.naturals (a + r) (omega arith) v) (g.0.2.within (a + r) (omega arith) v))
 
   say : (bs : List ℕ) (f : Forest) (n a c r : ℕ) → OpenedAll bs f → RowsAll f n → a + c ≤ n → r < c → across r (values_all (shown_all bs f a c)) ≡ values_at bs f (a + r)

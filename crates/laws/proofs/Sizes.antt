@@ -16,7 +16,7 @@ use Rattle.layout.specs.Messages.{bit_bytes, mark_bytes, offsets, offset_bytes, 
 use Rattle.layout.proofs.Lists.{length-rows}
 use Rattle.layout.proofs.Numbers.{length-le}
 use Rattle.laws.proofs.Says.{passed}
-use Rattle.laws.proofs.Places.{bits-made, slots_joined, strings_joined}
+use Rattle.laws.proofs.Places.{bits_made, slots_joined, strings_joined}
 use Rattle.laws.proofs.Round.{length-offsets}
 
 length-le_all : (w : ℕ) (ns : List ℕ) → length (le_all w ns) ≡ length ns * w
@@ -62,7 +62,7 @@ mark_by bs n a c None p l e = omega arith
 mark_by bs n a c (Some q) p l e =
     let b : Bits = bits_at (drop q bs) (n.from + a) c in
     let m : length (mark_bytes (Marks.some b)) ≤ length (bit_bytes b) = marks_by (eqb (zeros b.bits) 0) (bit_bytes b) in
-    let z : length (bit_bytes b) ≡ bytes_for c = (bits-made (drop q bs) (n.from + a) c).size in
+    let z : length (bit_bytes b) ≡ bytes_for c = (bits_made (drop q bs) (n.from + a) c).size in
     let f : q + bytes_for (n.from + n.rows) ≤ length bs = p.bitmap q e in
     omega arith
 
@@ -81,7 +81,7 @@ mutual
   pub bounded_is : (bs : List ℕ) (t : Tree) (a c : ℕ) → Opened bs t → a + c ≤ rows_of t → AtMost (length bs) (buffers (shown bs t a c))
   bounded_is bs (Tree.nulls n) a c g l = tt
   bounded_is bs (Tree.bools n) a c g l =
-      (mark_short bs n a c g.0 l, (omega (arith, (bits-made (drop n.slots bs) (n.from + a) c).size, g.1), tt))
+      (mark_short bs n a c g.0 l, (omega (arith, (bits_made (drop n.slots bs) (n.from + a) c).size, g.1), tt))
   bounded_is bs (Tree.fixed n) a c g l =
       (mark_short bs n a c g.0 l, (rw (slots_joined bs n.size n a c) (cut_short (n.slots + (n.from + a) * n.size) (c * n.size) bs), tt))
   bounded_is bs (Tree.bytes w n) a c g l = (

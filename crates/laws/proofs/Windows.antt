@@ -28,8 +28,8 @@ within_tree w g = let e = tree_rows w.nodes w.node in omega (arith, g.within)
 pub shows_values : ShowsValues
 shows_values w g = says_of w.bytes (tree_in w) w.first w.rows (opened_in w g) (within_tree w g)
 
-pub first-inside : (k : ℕ) (w : Window) → k ≤ w.rows → Inside w → Inside (first_rows k w)
-first-inside k w l g = record { opened = g.opened; stands = g.stands; within = omega (arith, g.within) }
+pub first_inside : (k : ℕ) (w : Window) → k ≤ w.rows → Inside w → Inside (first_rows k w)
+first_inside k w l g = record { opened = g.opened; stands = g.stands; within = omega (arith, g.within) }
 
 pub later_inside : (k : ℕ) (w : Window) → k ≤ w.rows → Inside w → Inside (later_rows k w)
 later_inside k w l g = record { opened = g.opened; stands = g.stands; within = omega (arith, g.within) }
@@ -99,8 +99,8 @@ heard_so = record {
 rows_at : {X : Type 0} (n : ℕ) (f g : ℕ → X) (d : X) → rows n f ≡ rows n g → (r : ℕ) → r < n → f r ≡ g r
 rows_at {X} n f g d e r l = sym (get_or_rows n f r d l) ∙ ap (λ (xs : List X). get_or xs r d) e ∙ get_or_rows n g r d l
 
-equal-values : (w v : Window) → Equal w v → values_in w ≡ values_in v
-equal-values w v p = rows_same w.rows (value_in w) (value_in v) p.values ∙ ap (λ (n : ℕ). rows n (value_in v)) p.rows
+equal_values : (w v : Window) → Equal w v → values_in w ≡ values_in v
+equal_values w v p = rows_same w.rows (value_in w) (value_in v) p.values ∙ ap (λ (n : ℕ). rows n (value_in v)) p.rows
 
 pub equality : Equality
 equality = record {
@@ -108,7 +108,7 @@ equality = record {
   back = λ w v p. record { shapes = sym p.shapes; rows = sym p.rows; values = λ r l. sym (p.values r (omega (arith, p.rows))) };
   along = λ w v u p q.
       record { shapes = p.shapes ∙ q.shapes; rows = p.rows ∙ q.rows; values = λ r l. p.values r l ∙ q.values r (omega (arith, p.rows)) };
-  first = λ k w v l p. equal-values w (first_rows k v) p ∙ sym (take-rows k v.rows (value_in v) l);
+  first = λ k w v l p. equal_values w (first_rows k v) p ∙ sym (take-rows k v.rows (value_in v) l);
 }
 
 module _ (w v : Window) (g : Inside w) (h : Inside v) where
@@ -128,7 +128,7 @@ module _ (w v : Window) (g : Inside w) (h : Inside v) where
   same_from p = record {
     shapes = shape_w ∙ p.shapes ∙ sym shape_v;
     counts = count_w ∙ p.rows ∙ sym count_v;
-    values = shows_values w g ∙ equal-values w v p ∙ sym (shows_values v h);
+    values = shows_values w g ∙ equal_values w v p ∙ sym (shows_values v h);
   }
 
   same_to : Same (shown_in w) (shown_in v) → Equal w v
@@ -145,7 +145,7 @@ module _ (w v : Window) (g : Inside w) (h : Inside v) where
   front_from p = record {
     shapes = shape_w ∙ p.1.shapes ∙ sym shape_v;
     longer = omega (arith, p.0, count_w, count_v);
-    values = shows_values w g ∙ equal-values w (first_rows w.rows v) p.1 ∙ sym (front_values (omega (arith, p.0)));
+    values = shows_values w g ∙ equal_values w (first_rows w.rows v) p.1 ∙ sym (front_values (omega (arith, p.0)));
   }
 
   front_to : Front (shown_in w) (shown_in v) → (w.rows < v.rows) × Equal w (first_rows w.rows v)

@@ -7,21 +7,21 @@ use Rattle.std.proofs.lemmas.Bool.{and_right, eq-eqb, ne_eqb}
 use Rattle.layout.specs.Lists.{rows, every}
 use Rattle.layout.specs.Bits.{bit_of, zeros, flags}
 
-pub zeros-first : (b : Bool) (bs : List Bool) → zeros (b ∷ bs) ≡ cond b 0 1 + zeros bs
-zeros-first true bs = omega arith
-zeros-first false bs = omega arith
+pub zeros_first : (b : Bool) (bs : List Bool) → zeros (b ∷ bs) ≡ cond b 0 1 + zeros bs
+zeros_first true bs = omega arith
+zeros_first false bs = omega arith
 
-zeros-last : (n : ℕ) (f : ℕ → Bool) → zeros (rows (suc n) f) ≡ zeros (rows n f) + cond (f n) 0 1
-zeros-last zero f = zeros-first (f 0) [] ∙ omega arith
-zeros-last (suc n) f =
-    let a = zeros-first (f 0) (rows (suc n) (λ i. f (suc i))) in
-    let b = zeros-first (f 0) (rows n (λ i. f (suc i))) in
-    let c = zeros-last n (λ i. f (suc i)) in
+zeros_last : (n : ℕ) (f : ℕ → Bool) → zeros (rows (suc n) f) ≡ zeros (rows n f) + cond (f n) 0 1
+zeros_last zero f = zeros_first (f 0) [] ∙ omega arith
+zeros_last (suc n) f =
+    let a = zeros_first (f 0) (rows (suc n) (λ i. f (suc i))) in
+    let b = zeros_first (f 0) (rows n (λ i. f (suc i))) in
+    let c = zeros_last n (λ i. f (suc i)) in
     omega arith
 
 -- one bit more
-pub zeros-more : (n m : ℕ) (f : ℕ → Bool) (b : Bool) (k : ℕ) → m ≡ zeros (rows n f) → b ≡ f n → k ≡ bool_byte (not b) → m + k ≡ zeros (rows (n + 1) f)
-zeros-more n m f b k e g h = rw (add-one, e, h, g) (ap (λ (x : ℕ). zeros (rows n f) + x) (flipped (f n)) ∙ sym (zeros-last n f))
+pub zeros_more : (n m : ℕ) (f : ℕ → Bool) (b : Bool) (k : ℕ) → m ≡ zeros (rows n f) → b ≡ f n → k ≡ bool_byte (not b) → m + k ≡ zeros (rows (n + 1) f)
+zeros_more n m f b k e g h = rw (add-one, e, h, g) (ap (λ (x : ℕ). zeros (rows n f) + x) (flipped (f n)) ∙ sym (zeros_last n f))
   where
     flipped : (b : Bool) → bool_byte (not b) ≡ cond b 0 1
     flipped true = refl
@@ -33,9 +33,9 @@ one_at_most false = omega arith
 
 -- ---- flags against a mask
 
-pub flags-small : (n : ℕ) (f : ℕ → Bool) → flags n f < 2 ^ n
-flags-small zero f = omega arith
-flags-small (suc n) f = rw (pow-suc 2 n) (omega (arith, flags-small n f, mul-le (bool_byte (f n)) (2 ^ n) 1 (2 ^ n) (one_at_most (f n)) (omega arith)))
+pub flags_small : (n : ℕ) (f : ℕ → Bool) → flags n f < 2 ^ n
+flags_small zero f = omega arith
+flags_small (suc n) f = rw (pow-suc 2 n) (omega (arith, flags_small n f, mul-le (bool_byte (f n)) (2 ^ n) 1 (2 ^ n) (one_at_most (f n)) (omega arith)))
 
 and_one : (b : Bool) (m : ℕ) → bit_and (bool_byte b) m ≡ bool_byte (b && eqb (m % 2) 1)
 and_one false m = omega (arith, and_le_l 0 m)
@@ -73,8 +73,8 @@ flags_masked (suc n) f b =
     let p = 2 ^ n in
     let up : z / p ≡ bool_byte (f n && bit_of b n) = and_shr x b n ∙ ap (λ (m : ℕ). bit_and m (b / p)) (shr_high' n f) ∙ and_one (f n) (b / p) in
     let low : z % p ≡ bit_and (flags n f) b =
-    and_mod x b n ∙ ap (λ (m : ℕ). bit_and m (b % p)) (low_flags n f ∙ sym (mod-eq_of_lt (flags-small n f)))
-    ∙ sym (and_mod (flags n f) b n) ∙ mod-eq_of_lt (below (bit_and (flags n f) b) (flags n f) p (and_le_l (flags n f) b) (flags-small n f)) in
+    and_mod x b n ∙ ap (λ (m : ℕ). bit_and m (b % p)) (low_flags n f ∙ sym (mod-eq_of_lt (flags_small n f)))
+    ∙ sym (and_mod (flags n f) b n) ∙ mod-eq_of_lt (below (bit_and (flags n f) b) (flags n f) p (and_le_l (flags n f) b) (flags_small n f)) in
     let split : z ≡ bool_byte (f n && bit_of b n) * p + bit_and (flags n f) b = sym (shr_split z n) ∙ ap₂ (λ (h l : ℕ). h * p + l) up low in
     parts_zero z p (bool_byte (f n && bit_of b n)) (bit_and (flags n f) b) split (pow_pos n)
     ∙ ap₂ ◌&&◌ (flags_masked n f b) (zero_byte (f n) (bit_of b n))
@@ -84,10 +84,10 @@ flags_masked (suc n) f b =
     below a b c h l = omega arith
 
     shr_high' : (n : ℕ) (f : ℕ → Bool) → flags (suc n) f / 2 ^ n ≡ bool_byte (f n)
-    shr_high' n f = ap (λ (m : ℕ). m / 2 ^ n) (add_comm (flags n f) (bool_byte (f n) * 2 ^ n)) ∙ shr_high (bool_byte (f n)) n (flags n f) (flags-small n f)
+    shr_high' n f = ap (λ (m : ℕ). m / 2 ^ n) (add_comm (flags n f) (bool_byte (f n) * 2 ^ n)) ∙ shr_high (bool_byte (f n)) n (flags n f) (flags_small n f)
 
     low_flags : (n : ℕ) (f : ℕ → Bool) → flags (suc n) f % 2 ^ n ≡ flags n f
-    low_flags n f = ap (λ (m : ℕ). m % 2 ^ n) (add_comm (flags n f) (bool_byte (f n) * 2 ^ n)) ∙ mod_low (bool_byte (f n)) n (flags n f) (flags-small n f)
+    low_flags n f = ap (λ (m : ℕ). m % 2 ^ n) (add_comm (flags n f) (bool_byte (f n) * 2 ^ n)) ∙ mod_low (bool_byte (f n)) n (flags n f) (flags_small n f)
 
     turned : (x y : Bool) → (x && y) ≡ (y && x)
     turned true true = refl

@@ -20,14 +20,14 @@ every_at (suc n) k p h l =
     let b = and_parts (p n) (every n p) h in
     elim (cases_eq k n) [ inl e ↦ rw e b.0 | inr ne ↦ every_at n k p b.1 (omega arith) ]
 
-pub every-all : (n : ℕ) (p : ℕ → Bool) → ((k : ℕ) → k < n → p k ≡ true) → every n p ≡ true
-every-all zero p h = refl
-every-all (suc n) p h = and_from (p n) (every n p) (h n (omega arith)) (every-all n p (λ k l. h k (omega arith)))
+pub every_all : (n : ℕ) (p : ℕ → Bool) → ((k : ℕ) → k < n → p k ≡ true) → every n p ≡ true
+every_all zero p h = refl
+every_all (suc n) p h = and_from (p n) (every n p) (h n (omega arith)) (every_all n p (λ k l. h k (omega arith)))
 
 -- equal tests
-pub every-same : (n : ℕ) (p q : ℕ → Bool) → ((k : ℕ) → k < n → p k ≡ q k) → every n p ≡ every n q
-every-same zero p q h = refl
-every-same (suc n) p q h = rw (h n (omega arith), every-same n p q (λ k l. h k (omega arith)))
+pub every_same : (n : ℕ) (p q : ℕ → Bool) → ((k : ℕ) → k < n → p k ≡ q k) → every n p ≡ every n q
+every_same zero p q h = refl
+every_same (suc n) p q h = rw (h n (omega arith), every_same n p q (λ k l. h k (omega arith)))
 
 turned : (x y : Bool) → (x && y) ≡ (y && x)
 turned true true = refl
@@ -43,9 +43,9 @@ every_next n p ok t h e = rw (add-one, h, e) (turned (every n p) (p n))
 pub passes_at : {X : Type 0} (o : Option X) (p : X → Bool) (x : X) → passes o p ≡ true → o ≡ Some x → p x ≡ true
 passes_at o p x h e = rw e at h
 
-pub passes-all : {X : Type 0} (o : Option X) (p : X → Bool) → ((x : X) → o ≡ Some x → p x ≡ true) → passes o p ≡ true
-passes-all None p h = refl
-passes-all (Some x) p h = h x refl
+pub passes_all : {X : Type 0} (o : Option X) (p : X → Bool) → ((x : X) → o ≡ Some x → p x ≡ true) → passes o p ≡ true
+passes_all None p h = refl
+passes_all (Some x) p h = h x refl
 
 pub cond_at : (b x : Bool) → cond b x true ≡ true → b ≡ true → x ≡ true
 cond_at b x h e = rw e at h

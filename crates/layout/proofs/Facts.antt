@@ -30,8 +30,8 @@ module _ (n : Node) (t : Tabled n) where
   size_of k is = subst (λ (k : Kind). SizeFits k n.size) (one_kind n t.kind k t.is is) t.size
 
   -- values have at least one byte, and few
-  pub fixed-size : Is n Fixed → (1 ≤ n.size) × (n.size ≤ 256)
-  fixed-size is = size_of Fixed is
+  pub fixed_size : Is n Fixed → (1 ≤ n.size) × (n.size ≤ 256)
+  fixed_size is = size_of Fixed is
 
   pub key_size : Is n Dictionary → (w : Width) × (n.size ≡ wide w)
   key_size is = size_of Dictionary is

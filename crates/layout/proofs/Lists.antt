@@ -28,8 +28,8 @@ cut-put p w ys xs e h =
     rw (drop_at (take p xs) (ys ++ drop (p + length ys) xs) p (length-take-le p xs h), take_at ys (drop (p + length ys) xs) w e)
 
 -- and what stands before it is as it was
-pub cut-before : {X : Type 0} (q w p : ℕ) (ys xs : List X) → q + w ≤ p → p ≤ length xs → cut q w (put p ys xs) ≡ cut q w xs
-cut-before {X} q w p ys xs h l =
+pub cut_before : {X : Type 0} (q w p : ℕ) (ys xs : List X) → q + w ≤ p → p ≤ length xs → cut q w (put p ys xs) ≡ cut q w xs
+cut_before {X} q w p ys xs h l =
     let n : ℕ = q + w in
     let e : n - q ≡ w = omega arith in
     let a : (zs : List X) → cut q w zs ≡ drop q (take n zs) = λ zs. (ap (λ (m : ℕ). take m (drop q zs)) (sym e) ∙ between_is zs q n) in

@@ -6,7 +6,7 @@ use Rattle.layout.specs.declared.number.Width.TheVariants.{Eight}
 use Rattle.layout.specs.Lists.{put}
 use Rattle.layout.specs.Numbers.{le, unle, unsigned_at}
 use Rattle.layout.specs.Nodes.{node_in, nodes_of, zero_node, node_at}
-use Rattle.layout.proofs.Lists.{length-rows, get_or_rows, cut-before, length-put}
+use Rattle.layout.proofs.Lists.{length-rows, get_or_rows, cut_before, length-put}
 use Rattle.layout.proofs.Numbers.{length-le}
 
 pub length-nodes : (nb : List ℕ) → length (nodes_of nb) ≡ length nb / 80
@@ -27,23 +27,23 @@ abbrev pub Spelled : List ℕ → List ℕ → ℕ → Type 0
 Spelled bs ns k = (length bs ≡ 80) × ((j : ℕ) → j < k → unsigned_at bs (8 * j) Eight ≡ get_or ns j 0)
 
 -- and one more
-pub spelled-more : (bs after ns : List ℕ) (k v : ℕ) → Spelled bs ns k → k < 10 → v ≡ get_or ns k 0 → after ≡ put (8 * k) (le 8 v) bs → unsigned_at after (8 * k) Eight ≡ v → Spelled after ns (k + 1)
-spelled-more bs after ns k v s l e f g = (
+pub spelled_more : (bs after ns : List ℕ) (k v : ℕ) → Spelled bs ns k → k < 10 → v ≡ get_or ns k 0 → after ≡ put (8 * k) (le 8 v) bs → unsigned_at after (8 * k) Eight ≡ v → Spelled after ns (k + 1)
+spelled_more bs after ns k v s l e f g = (
   ap length f ∙ length-put (8 * k) (le 8 v) bs (omega (arith, s.0, length-le 8 v)) ∙ s.0,
   λ j m.
       elim (cases_eq j k) [
         | inl q ↦ ap (λ (i : ℕ). unsigned_at after (8 * i) Eight) q ∙ g ∙ e ∙ ap (λ (i : ℕ). get_or ns i 0) (sym q)
         | inr ne ↦
             (ap (λ (bs : List ℕ). unsigned_at bs (8 * j) Eight) f
-            ∙ ap unle (cut-before (8 * j) 8 (8 * k) (le 8 v) bs (omega arith) (omega (arith, s.0)))
+            ∙ ap unle (cut_before (8 * j) 8 (8 * k) (le 8 v) bs (omega arith) (omega (arith, s.0)))
             ∙ s.1 j (omega arith))
       ],
 )
 
 -- all ten are the node
-pub spelled-node : (bs : List ℕ) (n : Node) (k : ℕ) → 10 ≤ k → Spelled bs (numbers_of n) k → node_in bs 0 ≡ n
+pub spelled_node : (bs : List ℕ) (n : Node) (k : ℕ) → 10 ≤ k → Spelled bs (numbers_of n) k → node_in bs 0 ≡ n
 unfolding node_in
-spelled-node bs n k h s =
+spelled_node bs n k h s =
     λ i. record {
       kind = s.1 0 (omega arith) i;
       mark = s.1 1 (omega arith) i;

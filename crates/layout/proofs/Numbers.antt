@@ -140,8 +140,8 @@ signed_le w (negsuc n) h =
 pub unsigned_put : (bs : List ℕ) (p : ℕ) (w : Width) (v : ℕ) → p + wide w ≤ length bs → v < 256 ^ wide w → unsigned_at (put p (le (wide w) v) bs) p w ≡ v
 unsigned_put bs p w v h f = ap unle (cut-put p (wide w) (le (wide w) v) bs (length-le (wide w) v) (omega arith)) ∙ unle-le (wide w) v f
 
-pub signed-put : (bs : List ℕ) (p : ℕ) (w : Width) (z : ℤ) → p + wide w ≤ length bs → SignedFits (wide w) z → signed_at (put p (le (wide w) (twos (wide w) z)) bs) p w ≡ z
-signed-put bs p w z h f =
+pub signed_put : (bs : List ℕ) (p : ℕ) (w : Width) (z : ℤ) → p + wide w ≤ length bs → SignedFits (wide w) z → signed_at (put p (le (wide w) (twos (wide w) z)) bs) p w ≡ z
+signed_put bs p w z h f =
     ap signed (cut-put p (wide w) (le (wide w) (twos (wide w) z)) bs (length-le (wide w) (twos (wide w) z)) (omega arith)) ∙ signed_le (wide w) z f
 
 -- what a write to a part of the bytes leaves

@@ -70,29 +70,29 @@ named n =
     (cond (eqb n 7) Offset (cond (eqb n 8) Key (cond (eqb n 9) Ended (cond (eqb n 10) Column (cond (eqb n 11) DictionaryAboveDictionary (cond (eqb n 12) NoId
     (cond (eqb n 13) Replacement (cond (eqb n 14) Memory (cond (eqb n 15) Rows (cond (eqb n 16) Header (cond (eqb n 17) Sink Ids))))))))))))))))
 
-named-is : (r : Refusal) → named (refusal_number r) ≡ r
+named_is : (r : Refusal) → named (refusal_number r) ≡ r
 unfolding named
-named-is Alignment = refl
-named-is NodeBytes = refl
-named-is TooLarge = refl
-named-is KindOrSize = refl
-named-is Nesting = refl
-named-is Place = refl
-named-is Offset = refl
-named-is Key = refl
-named-is Ended = refl
-named-is Column = refl
-named-is DictionaryAboveDictionary = refl
-named-is NoId = refl
-named-is Replacement = refl
-named-is Memory = refl
-named-is Rows = refl
-named-is Header = refl
-named-is Sink = refl
-named-is Ids = refl
+named_is Alignment = refl
+named_is NodeBytes = refl
+named_is TooLarge = refl
+named_is KindOrSize = refl
+named_is Nesting = refl
+named_is Place = refl
+named_is Offset = refl
+named_is Key = refl
+named_is Ended = refl
+named_is Column = refl
+named_is DictionaryAboveDictionary = refl
+named_is NoId = refl
+named_is Replacement = refl
+named_is Memory = refl
+named_is Rows = refl
+named_is Header = refl
+named_is Sink = refl
+named_is Ids = refl
 
 pub same_refusal : (q r : Refusal) → refusal_number q ≡ refusal_number r → q ≡ r
-same_refusal q r e = sym (named-is q) ∙ ap named e ∙ named-is r
+same_refusal q r e = sym (named_is q) ∙ ap named e ∙ named_is r
 
 -- one rule more, in the order of the numbers
 pub below_next : (ns : List Node) (bs : List ℕ) (i : ℕ) (q : Refusal) → ((r : Refusal) → refusal_number r < refusal_number q → holds r ns bs i ≡ true) → holds q ns bs i ≡ true
@@ -105,9 +105,9 @@ below_next ns bs i q below here r l =
 
 -- ---- what an opened recording tells
 
-pub sound-holds : (ns : List Node) (bs : List ℕ) (i : ℕ) → sound ns bs i ≡ true → (r : Refusal) → holds r ns bs i ≡ true
+pub sound_holds : (ns : List Node) (bs : List ℕ) (i : ℕ) → sound ns bs i ≡ true → (r : Refusal) → holds r ns bs i ≡ true
 unfolding sound
-sound-holds ns bs i s =
+sound_holds ns bs i s =
     let f = h ns bs i in
     let a = and_parts (f KindOrSize) (f Nesting && (f Place && (f Offset && f Key))) s in
     let b = and_parts (f Nesting) (f Place && (f Offset && f Key)) a.1 in
@@ -121,7 +121,7 @@ sound_from ns bs i f = and_from _ _ (f KindOrSize) (and_from _ _ (f Nesting) (an
 
 -- every rule holds at every node
 pub kept_rule : (ns : List Node) (bs : List ℕ) → Kept ns bs → (i : ℕ) → i < length ns → (r : Refusal) → Rule r ns bs i
-kept_rule ns bs k i l r = tells ns bs i r (sound-holds ns bs i (k.2 i l) r)
+kept_rule ns bs k i l r = tells ns bs i r (sound_holds ns bs i (k.2 i l) r)
 
 pub kept_none : Kept (nodes_of []) []
 unfolding nodes_of
@@ -164,8 +164,8 @@ same_fault f g p q s = λ i. record { refusal = p i; column = q i; node = s i }
 
 module _ (nb bs : List ℕ) where
   -- node and refusal of two first faults
-  same-node : (f g : Fault) → FirstBroken nb bs f → FirstBroken nb bs g → f.node ≡ g.node
-  same-node f g a b =
+  same_node : (f g : Fault) → FirstBroken nb bs f → FirstBroken nb bs g → f.node ≡ g.node
+  same_node f g a b =
       elim (cases_order f.node g.node) [
         | inl e ↦ e
         | inr o ↦ (elim o [ inl l ↦ absurd (a.broken (b.before f.node l f.refusal)) | inr l ↦ absurd (b.broken (a.before g.node l g.refusal)) ])
@@ -173,7 +173,7 @@ module _ (nb bs : List ℕ) where
 
   same_first : (f g : Fault) → FirstBroken nb bs f → FirstBroken nb bs g → f ≡ g
   same_first f g a b =
-      let e = same-node f g a b in
+      let e = same_node f g a b in
       let number : refusal_number f.refusal ≡ refusal_number g.refusal =
       elim (cases_order (refusal_number f.refusal) (refusal_number g.refusal)) [
         | inl e ↦ e

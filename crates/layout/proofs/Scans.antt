@@ -9,7 +9,7 @@ use Rattle.layout.specs.Nodes.{bitmap_of}
 use Rattle.layout.specs.Rows.{mark_in, slot_at, key_at}
 use Rattle.layout.specs.Tests.{rises_to, key_passes, keyed_below}
 use Rattle.layout.proofs.Lists.{length_cut}
-use Rattle.layout.proofs.Every.{every-all, every_false, every-same}
+use Rattle.layout.proofs.Every.{every_all, every_false, every_same}
 use Rattle.layout.proofs.Places.{slot_within}
 
 -- a slot that lies within the bytes is whole
@@ -75,7 +75,7 @@ module _ (bs : List ℕ) (w : ℕ) (n : Node) (most half : ℕ) (is-half : 2 * h
         (elim (cases_Bool (every n.rows no_fall)) [
           | inl t ↦
               (let each : every (n.rows + 1) in_range ≡ true =
-              every-all (n.rows + 1) in_range
+              every_all (n.rows + 1) in_range
               (λ k l.
               let up = last_largest o n.rows t k (omega arith) in
               let limit : 256 ^ length (slot k) ≡ 256 ^ w = ap (λ (j : ℕ). 256 ^ j) (whole k (omega arith)) in
@@ -113,7 +113,7 @@ module _ (bs : List ℕ) (n : Node) (w half below : ℕ) (is-half : 2 * half ≡
   pub keys_unmarked : None ≡ bitmap_of n → every n.rows (λ r. ltb (unle (slot_at bs w n r)) (min below half)) ≡ keyed_below bs n below
   unfolding keyed_below
   keys_unmarked e =
-      every-same n.rows (λ r. ltb (unle (slot_at bs w n r)) (min below half)) (key_passes bs n below)
+      every_same n.rows (λ r. ltb (unle (slot_at bs w n r)) (min below half)) (key_passes bs n below)
       (λ r l.
       sym (at_most r l)
       ∙ ap (λ (m : Option ℕ). cond (mark_in bs m (n.from + r)) (natural (key_at bs n r) && ltb (unle (key_at bs n r)) below) true) e)
@@ -122,7 +122,7 @@ module _ (bs : List ℕ) (n : Node) (w half below : ℕ) (is-half : 2 * half ≡
       → every n.rows (λ r. not (bit_at (drop p bs) (n.from + r)) || ltb (unle (slot_at bs w n r)) (min below half)) ≡ keyed_below bs n below
   unfolding keyed_below
   keys_marked p e =
-      every-same n.rows (λ r. not (bit_at (drop p bs) (n.from + r)) || ltb (unle (slot_at bs w n r)) (min below half)) (key_passes bs n below)
+      every_same n.rows (λ r. not (bit_at (drop p bs) (n.from + r)) || ltb (unle (slot_at bs w n r)) (min below half)) (key_passes bs n below)
       (λ r l.
       ap (λ (x : Bool). not (bit_at (drop p bs) (n.from + r)) || x) (sym (at_most r l))
       ∙ sym (cond_or (bit_at (drop p bs) (n.from + r)) (natural (key_at bs n r) && ltb (unle (key_at bs n r)) below))

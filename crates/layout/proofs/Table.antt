@@ -19,8 +19,8 @@ among (l ∷ ks) n k h =
       | inr ne ↦ (let t = ne_eqb n (kind_number l) ne in among ks n k (rw t at h))
     ]
 
-pub kind-is : (n : ℕ) (k : Kind) → kind_of n ≡ Some k → n ≡ kind_number k
-kind-is n k h = among (Null ∷ Boolean ∷ Fixed ∷ Bytes32 ∷ Bytes64 ∷ List32 ∷ List64 ∷ Struct ∷ Dictionary ∷ []) n k h
+pub kind_is : (n : ℕ) (k : Kind) → kind_of n ≡ Some k → n ≡ kind_number k
+kind_is n k h = among (Null ∷ Boolean ∷ Fixed ∷ Bytes32 ∷ Bytes64 ∷ List32 ∷ List64 ∷ Struct ∷ Dictionary ∷ []) n k h
 
 numbered : (k : Kind) → kind_of (kind_number k) ≡ Some k
 numbered Null = refl

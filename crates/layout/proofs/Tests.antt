@@ -15,8 +15,8 @@ use Rattle.layout.specs.Nodes.{node_at, end_of, depth_of, bitmap_of}
 use Rattle.layout.specs.Rows.{mark_at, slot_at, key_at}
 use Rattle.layout.specs.Rules.{Is, Tabled, Nested, Placed, Rising, reach, OffsetsKept, Keyed, KeysKept, Rule}
 use Rattle.layout.specs.Tests.{passes, tabled_by, kids_of, kids_fit, shaped_as, lies, slots_lie, bitmap_lies, data_lies, placed_as, rises_to, offsets_as, key_passes, keyed_below, keys_as, kind_at, holds}
-use Rattle.layout.proofs.Table.{kind-is, kind_of_lem, size_tells, size_from, children_tell, children_from}
-use Rattle.layout.proofs.Every.{every_at, every-all, passes_at, passes-all, cond_at, cond_all}
+use Rattle.layout.proofs.Table.{kind_is, kind_of_lem, size_tells, size_from, children_tell, children_from}
+use Rattle.layout.proofs.Every.{every_at, every_all, passes_at, passes_all, cond_at, cond_all}
 use Rattle.layout.proofs.Kids.{some, span_of, some_from, some_tells, side_kids, side_facts, kids_side, rows_tell, rows_from}
 
 -- ---- KindOrSize
@@ -25,7 +25,7 @@ tabled_by_lem : (n : Node) (o : Option Kind) → kind_of n.kind ≡ o → tabled
 tabled_by_lem n None e h = absurd (let z : ◌≡◌ {A = ℕ} 0 1 = cc in omega arith)
 tabled_by_lem n (Some k) e h =
     let p = and_parts (size_fits k n.size) (leb (n.from + n.rows) 2147483647) h in
-    record { kind = k; is = kind-is n.kind k e; size = size_tells k n.size p.0; rows = leb-true _ _ p.1 }
+    record { kind = k; is = kind_is n.kind k e; size = size_tells k n.size p.0; rows = leb-true _ _ p.1 }
 
 pub tabled_tells : (n : Node) → tabled_by (kind_of n.kind) n ≡ true → Tabled n
 tabled_tells n h = tabled_by_lem n (kind_of n.kind) refl h
@@ -37,8 +37,8 @@ tabled_from n t =
 
 -- ---- Nesting
 
-pub same-is : (k l : Kind) → same k l ≡ true → kind_number k ≡ kind_number l
-same-is k l h = eqb-true _ _ h
+pub same_is : (k l : Kind) → same k l ≡ true → kind_number k ≡ kind_number l
+same_is k l h = eqb-true _ _ h
 
 module _ (ns : List Node) (i : ℕ) where
   pub nested_tells : shaped_as (kind_at ns i) ns i ≡ true → depth_of ns i ≤ 64 → Nested ns i
@@ -72,13 +72,13 @@ module _ (ns : List Node) (i : ℕ) where
       (and_from _ _ (le-leb _ _ n.within)
       (and_from _ _ nz
       (and_from _ _ (eq-eqb _ _ full)
-      (passes-all (kind_at ns i) (λ k. kids_fit k ns i)
+      (passes_all (kind_at ns i) (λ k. kids_fit k ns i)
       (λ k e.
-      let is : Is (node_at ns i) k = kind-is (node_at ns i).kind k e in
+      let is : Is (node_at ns i) k = kind_is (node_at ns i).kind k e in
       and_from _ _
       (rw same-kids (children_from k (length n.children) (n.count k is)))
       (cond_all (same k Struct) (all (kids_of ns i) (λ c. eqb (node_at ns c).rows (node_at ns i).rows))
-      (λ s. rw same-kids (rows_from ns n.children (node_at ns i).rows (n.rows (is ∙ same-is k Struct s))))))))))
+      (λ s. rw same-kids (rows_from ns n.children (node_at ns i).rows (n.rows (is ∙ same_is k Struct s))))))))))
 
 -- ---- Place
 
@@ -98,14 +98,14 @@ placed_tells n bs h =
 pub placed_from : (n : Node) (bs : List ℕ) → Placed bs n → passes (kind_of n.kind) (λ k. placed_as k n bs) ≡ true
 unfolding placed_as
 placed_from n bs p =
-    passes-all (kind_of n.kind) (λ k. placed_as k n bs)
+    passes_all (kind_of n.kind) (λ k. placed_as k n bs)
     (λ k e.
-    let is : Is n k = kind-is n.kind k e in
+    let is : Is n k = kind_is n.kind k e in
     and_from _ _
-    (passes-all (slot_bytes k n.size (n.from + n.rows)) (λ need. lies bs n.slots need) (λ need s. le-leb _ _ (p.slots k need is s)))
+    (passes_all (slot_bytes k n.size (n.from + n.rows)) (λ need. lies bs n.slots need) (λ need s. le-leb _ _ (p.slots k need is s)))
     (and_from _ _
     (cond_all (has_bitmap k) (passes (bitmap_of n) (λ place. lies bs place (bytes_for (n.from + n.rows))))
-    (λ b. passes-all (bitmap_of n) (λ place. lies bs place (bytes_for (n.from + n.rows))) (λ place s. le-leb _ _ (p.bitmap k place is b s))))
+    (λ b. passes_all (bitmap_of n) (λ place. lies bs place (bytes_for (n.from + n.rows))) (λ place s. le-leb _ _ (p.bitmap k place is b s))))
     (cond_all (has_data k) (lies bs n.«data» n.extent) (λ d. le-leb _ _ (p.strings k is d)))))
 
 -- ---- Offset
@@ -147,12 +147,12 @@ module _ (bs : List ℕ) (w : ℕ) (n : Node) (most : ℕ) where
             (let t = ne_eqb n.rows 0 ne in
             let some : 0 < n.rows = omega arith in
             rw t (and_from _ _
-            (every-all (n.rows + 1) in_range
+            (every_all (n.rows + 1) in_range
             (λ r l.
             let nat = g.naturals some r (omega arith) in
             let a = natural-number (slot_at bs w n r) nat in
             and_from _ _ nat (le-leb _ _ (omega (arith, g.within some r (omega arith))))))
-            (every-all n.rows no_fall
+            (every_all n.rows no_fall
             (λ r l.
             let a = natural-number (slot_at bs w n r) (g.naturals some r (omega arith)) in
             let b = natural-number (slot_at bs w n (r + 1)) (g.naturals some (r + 1) (omega arith)) in
@@ -170,8 +170,8 @@ module _ (ns : List Node) (bs : List ℕ) (i : ℕ) where
 
   pub offsets_from : OffsetsKept ns bs i → passes (kind_at ns i) (λ k. offsets_as k ns bs i) ≡ true
   offsets_from g =
-      passes-all (kind_at ns i) (λ k. offsets_as k ns bs i)
-      (λ k e. passes-all (offset_width k) (rises_as k) (λ w f. rising_from bs (wide w) (node_at ns i) (reach k ns i) (g k w (kind-is (node_at ns i).kind k e) f)))
+      passes_all (kind_at ns i) (λ k. offsets_as k ns bs i)
+      (λ k e. passes_all (offset_width k) (rises_as k) (λ w f. rising_from bs (wide w) (node_at ns i) (reach k ns i) (g k w (kind_is (node_at ns i).kind k e) f)))
 
 -- ---- Key
 
@@ -188,7 +188,7 @@ module _ (bs : List ℕ) (n : Node) (below : ℕ) where
   pub keyed_from : Keyed bs n below → keyed_below bs n below ≡ true
   unfolding keyed_below
   keyed_from g =
-      every-all n.rows (key_passes bs n below)
+      every_all n.rows (key_passes bs n below)
       (λ r l. cond_all (mark_at bs n r) (natural (key_at bs n r) && ltb (unle (key_at bs n r)) below) (λ m. and_from _ _ (g.naturals r l m) (lt-ltb _ _ (g.within r l m))))
 
 module _ (ns : List Node) (bs : List ℕ) (i : ℕ) where
@@ -198,10 +198,10 @@ module _ (ns : List Node) (bs : List ℕ) (i : ℕ) where
 
   pub keys_from : KeysKept ns bs i → passes (kind_at ns i) (λ k. keys_as k ns bs i) ≡ true
   keys_from g =
-      passes-all (kind_at ns i) (λ k. keys_as k ns bs i)
+      passes_all (kind_at ns i) (λ k. keys_as k ns bs i)
       (λ k e.
       cond_all (same k Dictionary) (keyed_below bs (node_at ns i) (node_at ns (i + 1)).rows)
-      (λ s. keyed_from bs (node_at ns i) (node_at ns (i + 1)).rows (g (kind-is (node_at ns i).kind k e ∙ same-is k Dictionary s))))
+      (λ s. keyed_from bs (node_at ns i) (node_at ns (i + 1)).rows (g (kind_is (node_at ns i).kind k e ∙ same_is k Dictionary s))))
 
   -- ---- each by its refusal
 

@@ -110,9 +110,9 @@ module _ (ns : List Node) (k : Kind) (i : ℕ) where
   stop_5 h = sym (and_right t1 (t2 && (t3 && (t4 && t5))) (and_right t2 (t3 && (t4 && t5)) (and_right t3 (t4 && t5) (and_right t4 t5 h))))
 
   -- a span of 0, or past the table
-  pub span-unfit : (n : Node) (room : ℕ) → n ≡ node_at ns i → i + room ≡ length ns → false ≡ spans_within n room → false ≡ shaped_as (Some k) ns i
-  span-unfit n room same-node h u =
-      elim (and_cases (some ns i) (leb (node_at ns i).span room) (sym (u ∙ ap (λ (n : Node). spans_within n room) same-node))) [
+  pub span_unfit : (n : Node) (room : ℕ) → n ≡ node_at ns i → i + room ≡ length ns → false ≡ spans_within n room → false ≡ shaped_as (Some k) ns i
+  span_unfit n room same_node h u =
+      elim (and_cases (some ns i) (leb (node_at ns i).span room) (sym (u ∙ ap (λ (n : Node). spans_within n room) same_node))) [
         | inl z ↦ stop_1 z
         | inr l ↦ stop_2 (lt-leb _ _ (omega (arith, leb-false _ _ l)))
       ]

@@ -9,7 +9,7 @@ use Rattle.layout.specs.Bits.{bit_of, bit_at, zeros, zeros_in}
 use Rattle.layout.specs.Numbers.{unle}
 use Rattle.layout.proofs.Lists.{rows_same}
 use Rattle.layout.proofs.Numbers.{read_8}
-use Rattle.layout.proofs.Bits.{zeros-first}
+use Rattle.layout.proofs.Bits.{zeros_first}
 
 -- ---- splitting a row
 
@@ -21,8 +21,8 @@ zeros_add (suc a) b f =
     let e : suc a + b ≡ suc (a + b) = omega arith in
     let ih = zeros_add a b (λ i. f (suc i)) in
     let s = ap zeros (rows_same b (λ i. f (suc (a + i))) (λ i. f (suc a + i)) (λ r h. ap f (omega arith))) in
-    let x = zeros-first (f 0) (rows (a + b) (λ i. f (suc i))) in
-    let y = zeros-first (f 0) (rows a (λ i. f (suc i))) in
+    let x = zeros_first (f 0) (rows (a + b) (λ i. f (suc i))) in
+    let y = zeros_first (f 0) (rows a (λ i. f (suc i))) in
     rw e (omega arith)
 
 -- ---- the bits of a number
@@ -37,7 +37,7 @@ zeros_of (suc k) x h =
     let half : y / 2 ≡ 2 ^ k - 1 - x / 2 = omega arith in
     let low : y % 2 ≡ 1 - x % 2 = omega arith in
     let ih = zeros_of k (x / 2) (omega arith) in
-    zeros-first (bit_of x 0) (rows k (λ i. bit_of x (suc i)))
+    zeros_first (bit_of x 0) (rows k (λ i. bit_of x (suc i)))
     ∙ ap₂ ◌+◌ (flipped x) (ap zeros (rows_same k (λ i. bit_of x (suc i)) (bit_of (x / 2)) (λ i l. next x i)) ∙ ih)
     ∙ ap₂ (λ (a b : ℕ). a + ones b) (sym low) (sym half)
     ∙ sym (ones_step y)
@@ -55,14 +55,14 @@ zeros_of (suc k) x h =
 
 -- ---- the bits of bytes
 
-bit-after : (b : ℕ) (bs : List ℕ) (i : ℕ) → bit_at (b ∷ bs) (8 + i) ≡ bit_at bs i
-bit-after b bs i =
+bit_after : (b : ℕ) (bs : List ℕ) (i : ℕ) → bit_at (b ∷ bs) (8 + i) ≡ bit_at bs i
+bit_after b bs i =
     let q : (8 + i) / 8 ≡ suc (i / 8) = omega arith in
     let r : (8 + i) % 8 ≡ i % 8 = omega arith in
     rw (q, r)
 
-bit-first : (b : ℕ) (bs : List ℕ) (i : ℕ) → i < 8 → bit_at (b ∷ bs) i ≡ bit_of b i
-bit-first b bs i h =
+bit_first : (b : ℕ) (bs : List ℕ) (i : ℕ) → i < 8 → bit_at (b ∷ bs) i ≡ bit_of b i
+bit_first b bs i h =
     let q : i / 8 ≡ 0 = omega arith in
     let r : i % 8 ≡ i = omega arith in
     rw (q, r)
@@ -73,8 +73,8 @@ zeros_cons b bs =
     let e : 8 * length (b ∷ bs) ≡ 8 + m = omega arith in
     ap (λ (k : ℕ). zeros (rows k (bit_at (b ∷ bs)))) e
     ∙ zeros_add 8 m (bit_at (b ∷ bs))
-    ∙ ap₂ ◌+◌ (ap zeros (rows_same 8 (bit_at (b ∷ bs)) (bit_of b) (bit-first b bs)))
-    (ap zeros (rows_same m (λ i. bit_at (b ∷ bs) (8 + i)) (bit_at bs) (λ i h. bit-after b bs i)))
+    ∙ ap₂ ◌+◌ (ap zeros (rows_same 8 (bit_at (b ∷ bs)) (bit_of b) (bit_first b bs)))
+    (ap zeros (rows_same m (λ i. bit_at (b ∷ bs) (8 + i)) (bit_at bs) (λ i h. bit_after b bs i)))
 
 -- each byte adds its own
 zeros_in_lem : (bs : List ℕ) → zeros_in bs ≡ sum_by (λ b. zeros (rows 8 (bit_of b))) bs
@@ -133,8 +133,8 @@ unle_8 bs e = ap unle (sym (take_all 8 bs (omega arith))) ∙ read_8 bs 0 (omega
 -- ---- whole bytes between bits
 
 -- whole bytes from byte q on are the bits from a byte's edge on
-zeros-whole : (bs : List ℕ) (p s q k w : ℕ) → q ≡ p + s / 8 → k ≡ w → (0 < w → s % 8 ≡ 0) → q + w ≤ length bs → zeros_in (take k (drop q bs)) ≡ zeros (rows (8 * w) (λ i. bit_at (drop p bs) (s + i)))
-zeros-whole bs p s q k w e f edge h =
+zeros_whole : (bs : List ℕ) (p s q k w : ℕ) → q ≡ p + s / 8 → k ≡ w → (0 < w → s % 8 ≡ 0) → q + w ≤ length bs → zeros_in (take k (drop q bs)) ≡ zeros (rows (8 * w) (λ i. bit_at (drop p bs) (s + i)))
+zeros_whole bs p s q k w e f edge h =
     let len : length (take k (drop q bs)) ≡ w = length-take-le k (drop q bs) (simp length-drop (omega arith)) ∙ f in
     ap (λ (m : ℕ). zeros (rows (8 * m) (bit_at (take k (drop q bs))))) len
     ∙ ap zeros (rows_same (8 * w) (bit_at (take k (drop q bs))) (λ i. bit_at (drop p bs) (s + i)) same)
@@ -156,6 +156,6 @@ zeros_three bs p s n a w b q k e at f edge h =
     let g : ℕ → Bool = λ i. bit_at (drop p bs) (s + i) in
     let one = zeros_add (a + 8 * w) b g in
     let two = zeros_add a (8 * w) g in
-    let mid = zeros-whole bs p (s + a) q k w at f edge h ∙ ap zeros (rows_same (8 * w) (λ i. bit_at (drop p bs) (s + a + i)) (λ i. g (a + i)) (λ i l. ap (bit_at (drop p bs)) (omega arith))) in
+    let mid = zeros_whole bs p (s + a) q k w at f edge h ∙ ap zeros (rows_same (8 * w) (λ i. bit_at (drop p bs) (s + a + i)) (λ i. g (a + i)) (λ i l. ap (bit_at (drop p bs)) (omega arith))) in
     let end = ap zeros (rows_same b (λ i. bit_at (drop p bs) (s + a + 8 * w + i)) (λ i. g (a + 8 * w + i)) (λ i l. ap (bit_at (drop p bs)) (omega arith))) in
     rw e (omega arith)

@@ -10,8 +10,8 @@ use Rattle.layout.specs.declared.number.Width.{Width}
 use Rattle.layout.specs.Bits.{bit_of, bit_at, flags}
 use Rattle.layout.specs.Lists.{every}
 use Rattle.layout.specs.Numbers.{wide, unsigned_at}
-use Rattle.layout.proofs.Bits.{flags-small, flags_masked, one_at_most}
-use Rattle.layout.proofs.Every.{every_add, every-same}
+use Rattle.layout.proofs.Bits.{flags_small, flags_masked, one_at_most}
+use Rattle.layout.proofs.Every.{every_add, every_same}
 use Rattle.opening.specs.Scans.{marked_below}
 
 -- ---- a flag more
@@ -19,15 +19,15 @@ use Rattle.opening.specs.Scans.{marked_below}
 small_flag : (b : Bool) → bool_byte b < 2 ^ 1
 small_flag b = omega (arith, one_at_most b)
 
-pub flags-more : (n over k : ℕ) (f : ℕ → Bool) → over ≡ flags n f → n < 8 → k ≡ bool_byte (f n) → over + (k * 2 ^ n) % 256 ≡ flags (n + 1) f
-flags-more n over k f e l h =
+pub flags_more : (n over k : ℕ) (f : ℕ → Bool) → over ≡ flags n f → n < 8 → k ≡ bool_byte (f n) → over + (k * 2 ^ n) % 256 ≡ flags (n + 1) f
+flags_more n over k f e l h =
     let w : (bool_byte (f n) * 2 ^ n) % 256 ≡ bool_byte (f n) * 2 ^ n = shl_whole (bool_byte (f n)) 1 n 8 (small_flag (f n)) (omega arith) in
     rw (add-one, e, h, w)
 
 pub flags_fit : (n over k : ℕ) (f : ℕ → Bool) → over ≡ flags n f → n < 8 → k ≡ bool_byte (f n) → over + (k * 2 ^ n) % 256 < 256
 flags_fit n over k f e l h =
     let p : 2 ^ (n + 1) ≤ 2 ^ 8 = pow-le-pow_right {n = 2} (omega arith) {i = n + 1} {j = 8} (omega arith) in
-    omega (arith, flags-more n over k f e l h, flags-small (n + 1) f)
+    omega (arith, flags_more n over k f e l h, flags_small (n + 1) f)
 
 -- ---- a byte more
 
@@ -56,7 +56,7 @@ module _ (bs : List ℕ) (bitmap : ℕ) (width : Width) (place bound first : ℕ
       let b : ℕ = get_or bs (bitmap + (first + j)) 0 in
       let m : 8 * (j + 1) ≡ 8 * j + 8 = omega arith in
       ap₂ ◌&&◌ e
-      (ap (λ (n : ℕ). eqb (bit_and n b) 0) h ∙ flags_masked 8 (over j) b ∙ every-same 8 (λ t. not (bit_of b t) || not (over j t)) (λ t. test (8 * j + t)) (λ t l. one_row j t l))
+      (ap (λ (n : ℕ). eqb (bit_and n b) 0) h ∙ flags_masked 8 (over j) b ∙ every_same 8 (λ t. not (bit_of b t) || not (over j t)) (λ t. test (8 * j + t)) (λ t l. one_row j t l))
       ∙ sym (every_add (8 * j) 8 test)
       ∙ ap (λ (k : ℕ). every k test) (sym m)
 
@@ -84,8 +84,8 @@ module _ (q : ℕ → Bool) (from rows head : ℕ) (is : head ≡ min rows ((8 -
       ∙ ap (λ (x : Bool). every head (λ k. q (from + k)) && x)
       (every_add (8 * whole) n (λ k. q (from + (head + k)))
       ∙ ap₂ ◌&&◌
-      (every-same (8 * whole) (λ k. q (from + (head + k))) (λ k. q (8 * ((from + head) / 8) + k)) (λ k l. ap q (omega arith)))
-      (every-same n (λ k. q (from + (head + (8 * whole + k)))) (λ k. q (last + k)) (λ k l. ap q (omega arith))))
+      (every_same (8 * whole) (λ k. q (from + (head + k))) (λ k. q (8 * ((from + head) / 8) + k)) (λ k l. ap q (omega arith)))
+      (every_same n (λ k. q (from + (head + (8 * whole + k)))) (λ k. q (last + k)) (λ k l. ap q (omega arith))))
 
   pub head_fails : false ≡ every head (λ k. q (from + k)) → false ≡ every rows (λ k. q (from + k))
   head_fails f = sym (joined ∙ and_left _ _ (sym f))

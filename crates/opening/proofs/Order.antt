@@ -10,7 +10,7 @@ use Rattle.layout.specs.Kinds.{kind_of}
 use Rattle.layout.specs.Nodes.{node_at, depth_of}
 use Rattle.layout.specs.Tests.{passes, tabled_as, tabled_by, shaped_as, placed_as, offsets_as, keys_as, holds}
 use Rattle.layout.proofs.Opening.{all_hold, below_4, below_next}
-use Rattle.layout.proofs.Table.{kind-is}
+use Rattle.layout.proofs.Table.{kind_is}
 use Rattle.layout.proofs.Tests.{tells}
 use Rattle.opening.specs.Checks.{Breaks, AllHold, Ready}
 
@@ -76,7 +76,7 @@ module _ (ns : List Node) (bs : List ℕ) (i : ℕ) (n : Node) (k : Kind) (same 
         pub ready : Ready k ns bs i
         ready =
             record {
-              is = kind-is (node_at ns i).kind k some;
+              is = kind_is (node_at ns i).kind k some;
               tabled = tells ns bs i KindOrSize (table ∙ sym t4);
               nested = tells ns bs i Nesting nested;
               placed = tells ns bs i Place (places ∙ sym t6);
@@ -89,5 +89,5 @@ module _ (ns : List Node) (bs : List ℕ) (i : ℕ) (n : Node) (k : Kind) (same 
           pub breaks_keys : false ≡ keys_as k ns bs i → Breaks ns bs i Key
           breaks_keys f = record { here = keys ∙ sym f; smaller = below_next ns bs i Offset below_7 (offsets ∙ sym t7) }
 
-          pub none-broken : true ≡ keys_as k ns bs i → AllHold ns bs i
-          none-broken t8 = all_hold ns bs i (table ∙ sym t4) nested (places ∙ sym t6) (offsets ∙ sym t7) (keys ∙ sym t8)
+          pub none_broken : true ≡ keys_as k ns bs i → AllHold ns bs i
+          none_broken t8 = all_hold ns bs i (table ∙ sym t4) nested (places ∙ sym t6) (offsets ∙ sym t7) (keys ∙ sym t8)

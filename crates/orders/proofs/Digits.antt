@@ -18,10 +18,10 @@ after_ge : (n : ℕ) (cs : List ℕ) → n ≤ digits_value_after 10 n cs
 after_ge n [] = omega arith
 after_ge n (c ∷ cs) = omega (arith, after_ge (n * 10 + digit_value c) cs)
 
-after-take : (n i : ℕ) (cs : List ℕ) → digits_value_after 10 n (take i cs) ≤ digits_value_after 10 n cs
-after-take n zero cs = after_ge n cs
-after-take n (suc i) [] = omega arith
-after-take n (suc i) (c ∷ cs) = after-take (n * 10 + digit_value c) i cs
+after_take : (n i : ℕ) (cs : List ℕ) → digits_value_after 10 n (take i cs) ≤ digits_value_after 10 n cs
+after_take n zero cs = after_ge n cs
+after_take n (suc i) [] = omega arith
+after_take n (suc i) (c ∷ cs) = after_take (n * 10 + digit_value c) i cs
 
 module _ (w : List ℕ) (h : is_numeral w ≡ true) where
   pub digit : (i : ℕ) → i < length w → IsInRange 48 57 (get_or w i 0)
@@ -35,7 +35,7 @@ module _ (w : List ℕ) (h : is_numeral w ≡ true) where
   pub too_large : (i : ℕ) → 2 ^ 64 ≤ digits_value 10 (take i w) → Err NumberTooLarge ≡ number_read w
   unfolding number_read
   too_large i l =
-      let big : 2 ^ 64 ≤ digits_value 10 w = omega (arith, after-take 0 i w) in
+      let big : 2 ^ 64 ≤ digits_value 10 w = omega (arith, after_take 0 i w) in
       let t = le-ltb (digits_value 10 w) (2 ^ 64) big in
       rw (h, t)
 

@@ -10,23 +10,23 @@ pub makes_map : (r : Result (Unit {0}) Why) (P Q : Type 0) → (P → Q) → Mak
 makes_map (Ok u) P Q f h = f h
 makes_map (Err why) P Q f h = h
 
-pub begun-none : (cs : List Spelled) → length cs ≡ 0 → cs ++ fresh None ∷ [] ≡ begun cs
-begun-none [] h = refl
-begun-none (c ∷ cs) h = absurd (omega arith)
+pub begun_none : (cs : List Spelled) → length cs ≡ 0 → cs ++ fresh None ∷ [] ≡ begun cs
+begun_none [] h = refl
+begun_none (c ∷ cs) h = absurd (omega arith)
 
-pub begun-some : (cs : List Spelled) → 0 < length cs → cs ≡ begun cs
-begun-some [] h = absurd (omega arith)
-begun-some (c ∷ cs) h = refl
+pub begun_some : (cs : List Spelled) → 0 < length cs → cs ≡ begun cs
+begun_some [] h = absurd (omega arith)
+begun_some (c ∷ cs) h = refl
 
-begun-long : (cs : List Spelled) → 0 < length (begun cs)
-begun-long [] = omega arith
-begun-long (c ∷ cs) = omega arith
+begun_long : (cs : List Spelled) → 0 < length (begun cs)
+begun_long [] = omega arith
+begun_long (c ∷ cs) = omega arith
 
 pub long : (v : Vec Case Global) → length (cases_in v) ≡ vec_len v
 long v = length-map (vec_items v) spelled ∙ sym v.ok.0
 
-pub some-begun : (v : Vec Case Global) (cs : List Spelled) → cases_in v ≡ begun cs → 0 < vec_len v
-some-begun v cs e = omega (arith, long v, ap length e, begun-long cs)
+pub some_begun : (v : Vec Case Global) (cs : List Spelled) → cases_in v ≡ begun cs → 0 < vec_len v
+some_begun v cs e = omega (arith, long v, ap length e, begun_long cs)
 
 -- a change of the last element is one of the last case
 pub map_last : (f : Spelled → Spelled) (xs : List Case) (x y : Case) (i : ℕ) → suc i ≡ length xs → x ≡ get_or xs i x → spelled y ≡ f (spelled x) → map spelled (set xs i y) ≡ to_last f (map spelled xs)

@@ -6,9 +6,9 @@ use Rattle.orders.specs.Texts.{length_before, line_in, after_line}
 use Rattle.orders.specs.Orders.{Spelled, longer, lines_in, Followed, BadLine, AllFollowed, FirstBad}
 
 module _ (b : ℕ) (bs : List ℕ) where
-  line-here : eqb b 10 ≡ true → (line_in (b ∷ bs) ≡ []) × (after_line (b ∷ bs) ≡ bs) × (lines_in (b ∷ bs) ≡ [] ∷ lines_in bs)
+  line_here : eqb b 10 ≡ true → (line_in (b ∷ bs) ≡ []) × (after_line (b ∷ bs) ≡ bs) × (lines_in (b ∷ bs) ≡ [] ∷ lines_in bs)
   unfolding line_in after_line
-  line-here h = (rw h, rw h, rw h)
+  line_here h = (rw h, rw h, rw h)
 
   line_on : eqb b 10 ≡ false → (line_in (b ∷ bs) ≡ b ∷ line_in bs) × (after_line (b ∷ bs) ≡ after_line bs) × (lines_in (b ∷ bs) ≡ longer b (lines_in bs))
   unfolding line_in after_line
@@ -18,16 +18,16 @@ module _ (b : ℕ) (bs : List ℕ) where
       (rw (h, one-add), rw (h, e), rw h)
 
   step_here : eqb b 10 ≡ true → lines_in (b ∷ bs) ≡ line_in (b ∷ bs) ∷ lines_in (after_line (b ∷ bs))
-  step_here h = let p = line-here h in p.2 ∙ sym (ap (λ l. l ∷ lines_in (after_line (b ∷ bs))) p.0 ∙ ap (λ r. [] ∷ lines_in r) p.1)
+  step_here h = let p = line_here h in p.2 ∙ sym (ap (λ l. l ∷ lines_in (after_line (b ∷ bs))) p.0 ∙ ap (λ r. [] ∷ lines_in r) p.1)
 
   step_on : eqb b 10 ≡ false → longer b (lines_in bs) ≡ (b ∷ line_in bs) ∷ lines_in (after_line bs) → lines_in (b ∷ bs) ≡ line_in (b ∷ bs) ∷ lines_in (after_line (b ∷ bs))
   step_on h e =
       let p = line_on h in
       p.2 ∙ e ∙ sym (ap (λ l. l ∷ lines_in (after_line (b ∷ bs))) p.0 ∙ ap (λ r. (b ∷ line_in bs) ∷ lines_in r) p.1)
 
-  longer-le : (lines : List (List ℕ)) → length (longer b lines) ≤ suc (length lines)
-  longer-le [] = omega arith
-  longer-le (line ∷ lines) = omega arith
+  longer_le : (lines : List (List ℕ)) → length (longer b lines) ≤ suc (length lines)
+  longer_le [] = omega arith
+  longer_le (line ∷ lines) = omega arith
 
 no_line : (b : ℕ) → longer b (lines_in []) ≡ (b ∷ line_in []) ∷ lines_in (after_line [])
 unfolding line_in after_line
@@ -47,8 +47,8 @@ pub lines_le : (bs : List ℕ) → length (lines_in bs) ≤ length bs
 lines_le [] = omega arith
 lines_le (b ∷ bs) =
     elim (cases_Bool (eqb b 10)) [
-      | inl h ↦ omega (arith, ap length (line-here b bs h).2, lines_le bs)
-      | inr h ↦ omega (arith, ap length (line_on b bs h).2, longer-le b bs (lines_in bs), lines_le bs)
+      | inl h ↦ omega (arith, ap length (line_here b bs h).2, lines_le bs)
+      | inr h ↦ omega (arith, ap length (line_on b bs h).2, longer_le b bs (lines_in bs), lines_le bs)
     ]
 
 pub after_less : (bs : List ℕ) → 0 < length bs → length (after_line bs) < length bs
@@ -86,8 +86,8 @@ module _ {text rest : List ℕ} {line : ℕ} {cases : List Spelled} (old : Sofar
         good = followed_more old.before (line_in rest) [] cases more old.good f;
       }
 
-  pub first-bad : (e : OrderError) → e.line ≡ line + 1 → BadLine (line_in rest) e.why → FirstBad text e
-  first-bad e n w =
+  pub first_bad : (e : OrderError) → e.line ≡ line + 1 → BadLine (line_in rest) e.why → FirstBad text e
+  first_bad e n w =
       record {
         before = old.before;
         bad = line_in rest;

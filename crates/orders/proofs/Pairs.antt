@@ -15,9 +15,9 @@ pub after_none : (o : Option (List ℕ)) → o ≡ after [] o
 after_none None = refl
 after_none (Some ys) = refl
 
-pub after-before : (xs : List ℕ) (b : ℕ) (o : Option (List ℕ)) → after xs (before (Some b) o) ≡ after (xs ++ b ∷ []) o
-after-before xs b None = refl
-after-before xs b (Some ys) = ap (λ l. Some l) (sym (append_assoc xs (b ∷ []) ys))
+pub after_before : (xs : List ℕ) (b : ℕ) (o : Option (List ℕ)) → after xs (before (Some b) o) ≡ after (xs ++ b ∷ []) o
+after_before xs b None = refl
+after_before xs b (Some ys) = ap (λ l. Some l) (sym (append_assoc xs (b ∷ []) ys))
 
 -- ---- a text from its first byte on that is no blank
 

@@ -38,8 +38,8 @@ module _ (ns : List Node) where
   top = record { clear = λ j l. absurd (omega arith); depth = λ l. refl }
 
   module _ (p e d : ℕ) (old : Level ns p e d) (here : p < e) (high : end_of ns p ≤ e) where
-    below-clear : (j : ℕ) → j < p + 1 → (end_of ns j ≤ p + 1) ⊎ (end_of ns p ≤ end_of ns j)
-    below-clear j l =
+    below_clear : (j : ℕ) → j < p + 1 → (end_of ns j ≤ p + 1) ⊎ (end_of ns p ≤ end_of ns j)
+    below_clear j l =
         elim (cases_eq j p) [
           | inl q ↦ inr (subst (λ (k : ℕ). end_of ns p ≤ end_of ns k) (sym q) (omega arith))
           | inr ne ↦ elim (old.clear j (omega arith)) [ inl h ↦ inl (omega arith) | inr h ↦ inr (omega arith) ]
@@ -58,7 +58,7 @@ module _ (ns : List Node) where
 
     -- the children of the first tree
     pub below : Level ns (p + 1) (end_of ns p) (d + 1)
-    below = record { clear = below-clear; depth = one_deeper }
+    below = record { clear = below_clear; depth = one_deeper }
 
     module _ (some : 1 ≤ (node_at ns p).span) (nested : (x : ℕ) → x < e → Nested ns x) where
       inside : (j : ℕ) → p ≤ j → j < end_of ns p → end_of ns j ≤ end_of ns p

@@ -12,8 +12,8 @@ use Rattle.layout.specs.Nodes.{node_at, bitmap_of}
 use Rattle.layout.specs.Numbers.{wide, width_of, unle}
 use Rattle.layout.specs.Rows.{mark_at, slot_at, offset_at, key_at, nulls_in, nulls_at}
 use Rattle.layout.specs.Rules.{Is, Tabled, Placed, Rising, HasOffsets, Rule, Lies, reach}
-use Rattle.layout.proofs.Facts.{one_kind, fixed-size, key_width, key_width_is, key_small, bits_lie, fixed_lie, keys_lie, offsets_lie, bitmapped}
-use Rattle.layout.proofs.Places.{slot_within, bit-within}
+use Rattle.layout.proofs.Facts.{one_kind, fixed_size, key_width, key_width_is, key_small, bits_lie, fixed_lie, keys_lie, offsets_lie, bitmapped}
+use Rattle.layout.proofs.Places.{slot_within, bit_within}
 use Rattle.layout.proofs.Tests.{natural-number}
 
 -- a slot that lies within the bytes, where it starts, and that it ends there
@@ -43,15 +43,15 @@ module _ (ns : List Node) (bs : List ℕ) (small : length bs ≤ 4294967295) (i 
   -- ---- bits
 
   pub bit_there : (r : ℕ) → r < n.rows → Is (node_at ns i) Boolean → n.slots + (n.from + r) / 8 < length bs
-  bit_there r l is = bit-within n.slots (n.from + r) (n.from + n.rows) (length bs) (omega arith) (bits_lie bs n placed (of Boolean is))
+  bit_there r l is = bit_within n.slots (n.from + r) (n.from + n.rows) (length bs) (omega arith) (bits_lie bs n placed (of Boolean is))
 
   -- the bitmap of any kind that may have one
-  pub bitmap-lies : (k : Kind) (place : ℕ) → Is (node_at ns i) k → true ≡ has_bitmap k → Some place ≡ bitmap_of n → Lies bs place (bytes_for (n.from + n.rows))
-  bitmap-lies k place is b e = placed.bitmap k place (of k is) (sym b) (sym e)
+  pub bitmap_lies_lem : (k : Kind) (place : ℕ) → Is (node_at ns i) k → true ≡ has_bitmap k → Some place ≡ bitmap_of n → Lies bs place (bytes_for (n.from + n.rows))
+  bitmap_lies_lem k place is b e = placed.bitmap k place (of k is) (sym b) (sym e)
 
   pub mark_there : (r place : ℕ) → r < n.rows → (Is (node_at ns i) Null → ⊥) → Some place ≡ bitmap_of n → place + (n.from + r) / 8 < length bs
   mark_there r place l ne e =
-      bit-within place (n.from + r) (n.from + n.rows) (length bs) (omega arith)
+      bit_within place (n.from + r) (n.from + n.rows) (length bs) (omega arith)
       (placed.bitmap tabled.kind place tabled.is (bitmapped n tabled (λ is. ne (subst (λ (n : Node). Is n Null) same is))) (sym e))
 
   -- ---- values and keys
@@ -61,7 +61,7 @@ module _ (ns : List Node) (bs : List ℕ) (small : length bs ≤ 4294967295) (i 
   slot_there r l (inr is) = there r (n.from + n.rows) n.size (omega arith) (omega (arith, few)) (keys_lie bs n placed (of Dictionary is))
 
   pub slot_small : Is (node_at ns i) Fixed ⊎ Is (node_at ns i) Dictionary → n.size ≤ 256
-  slot_small (inl is) = (fixed-size n tabled (of Fixed is)).1
+  slot_small (inl is) = (fixed_size n tabled (of Fixed is)).1
   slot_small (inr is) = omega (arith, key_small n tabled (of Dictionary is))
 
   pub width_there : Is (node_at ns i) Dictionary → is_some (width_of n.size) ≡ true
@@ -84,14 +84,14 @@ module _ (ns : List Node) (bs : List ℕ) (small : length bs ≤ 4294967295) (i 
   rising w has = rules Offset has.0 w has.1 has.2
 
   -- it is not below 0, so it is the number that was read
-  pub offset-is : (r : ℕ) (w : Width) (x : ℕ) → r ≤ n.rows → 0 < n.rows → HasOffsets (node_at ns i) w → x ≡ unle (slot_at bs (wide w) n r) → x ≡ offset_at bs (wide w) (node_at ns i) r
-  offset-is r w x l some has e =
+  pub offset_is : (r : ℕ) (w : Width) (x : ℕ) → r ≤ n.rows → 0 < n.rows → HasOffsets (node_at ns i) w → x ≡ unle (slot_at bs (wide w) n r) → x ≡ offset_at bs (wide w) (node_at ns i) r
+  offset_is r w x l some has e =
       let m = node_at ns i in
       let nat = (rising w has).naturals (subst (λ (n : Node). 0 < n.rows) same some) r (subst (λ (n : Node). r ≤ n.rows) same l) in
       e ∙ ap (λ (n : Node). unle (slot_at bs (wide w) n r)) same ∙ sym (natural-number (slot_at bs (wide w) m r) nat)
 
-  pub offset-reach : (r : ℕ) (w : Width) → r ≤ n.rows → 0 < n.rows → HasOffsets (node_at ns i) w → (k : Kind) → Is (node_at ns i) k → offset_at bs (wide w) (node_at ns i) r ≤ reach k ns i
-  offset-reach r w l some has k is =
+  pub offset_reach : (r : ℕ) (w : Width) → r ≤ n.rows → 0 < n.rows → HasOffsets (node_at ns i) w → (k : Kind) → Is (node_at ns i) k → offset_at bs (wide w) (node_at ns i) r ≤ reach k ns i
+  offset_reach r w l some has k is =
       let e = one_kind (node_at ns i) has.0 k has.1 is in
       subst (λ (k : Kind). offset_at bs (wide w) (node_at ns i) r ≤ reach k ns i) e
       ((rising w has).within (subst (λ (n : Node). 0 < n.rows) same some) r (subst (λ (n : Node). r ≤ n.rows) same l))
@@ -101,10 +101,10 @@ module _ (ns : List Node) (bs : List ℕ) (small : length bs ≤ 4294967295) (i 
   nulls_by : (k l : Kind) (x : ℕ) → Is (node_at ns i) k → Is (node_at ns i) l → x ≡ nulls_at k bs n → x ≡ nulls_at l bs (node_at ns i)
   nulls_by k l x a b e = e ∙ ap (λ (n : Node). nulls_at k bs n) same ∙ ap (λ (k : Kind). nulls_at k bs (node_at ns i)) (one_kind (node_at ns i) k l a b)
 
-  pub nulls-all : (k : Kind) → Is (node_at ns i) k → false ≡ has_bitmap k → (l : Kind) → Is (node_at ns i) l → n.rows ≡ nulls_at l bs (node_at ns i)
-  nulls-all k is f l js = nulls_by k l n.rows is js (ap (λ (b : Bool). cond b (nulls_in bs (bitmap_of n) n.from n.rows) n.rows) f)
+  pub nulls_all : (k : Kind) → Is (node_at ns i) k → false ≡ has_bitmap k → (l : Kind) → Is (node_at ns i) l → n.rows ≡ nulls_at l bs (node_at ns i)
+  nulls_all k is f l js = nulls_by k l n.rows is js (ap (λ (b : Bool). cond b (nulls_in bs (bitmap_of n) n.from n.rows) n.rows) f)
 
-  pub nulls-some : (k : Kind) (x : ℕ) (o : Option ℕ) → Is (node_at ns i) k → true ≡ has_bitmap k → o ≡ bitmap_of n → x ≡ nulls_in bs o n.from n.rows → (l : Kind) → Is (node_at ns i) l → x ≡ nulls_at l bs (node_at ns i)
-  nulls-some k x o is t e h l js =
+  pub nulls_some : (k : Kind) (x : ℕ) (o : Option ℕ) → Is (node_at ns i) k → true ≡ has_bitmap k → o ≡ bitmap_of n → x ≡ nulls_in bs o n.from n.rows → (l : Kind) → Is (node_at ns i) l → x ≡ nulls_at l bs (node_at ns i)
+  nulls_some k x o is t e h l js =
       nulls_by k l x is js
       (h ∙ ap (λ (o : Option ℕ). nulls_in bs o n.from n.rows) e ∙ ap (λ (b : Bool). cond b (nulls_in bs (bitmap_of n) n.from n.rows) n.rows) t)

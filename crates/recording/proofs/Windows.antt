@@ -22,8 +22,8 @@ use Rattle.layout.proofs.Facts.{child_stands}
 use Rattle.laws.proofs.Table.{tree_as_lem}
 
 -- a part that ends at or before a longer one
-pub bits-within : (place x y len : ℕ) → x ≤ y → place + bytes_for y ≤ len → place + bytes_for x ≤ len
-bits-within place x y len l h = omega arith
+pub bits_within : (place x y len : ℕ) → x ≤ y → place + bytes_for y ≤ len → place + bytes_for x ≤ len
+bits_within place x y len l h = omega arith
 
 module _ (ns : List Node) (bs : List ℕ) (kept : Kept ns bs) (i : ℕ) (l : i < length ns) where
   abbrev n : Node
@@ -41,36 +41,36 @@ module _ (ns : List Node) (bs : List ℕ) (kept : Kept ns bs) (i : ℕ) (l : i <
   absent e = let z : ◌≡◌ {A = ℕ} 0 1 = cc in omega arith
 
   -- the rows of a Null
-  pub all-null : (k : Kind) → Is n k → false ≡ has_bitmap k → (a c : ℕ) → c ≡ (own_field (shown bs (tree_at ns i) a c)).nulls
+  pub all_null : (k : Kind) → Is n k → false ≡ has_bitmap k → (a c : ℕ) → c ≡ (own_field (shown bs (tree_at ns i) a c)).nulls
   unfolding shown
-  all-null Null is e a c = sym (ap (λ (t : Tree). (own_field (shown bs t a c)).nulls) (tree_of Null is))
-  all-null Boolean is e a c = absurd (absent e)
-  all-null Fixed is e a c = absurd (absent e)
-  all-null Bytes32 is e a c = absurd (absent e)
-  all-null Bytes64 is e a c = absurd (absent e)
-  all-null List32 is e a c = absurd (absent e)
-  all-null List64 is e a c = absurd (absent e)
-  all-null Struct is e a c = absurd (absent e)
-  all-null Dictionary is e a c = absurd (absent e)
+  all_null Null is e a c = sym (ap (λ (t : Tree). (own_field (shown bs t a c)).nulls) (tree_of Null is))
+  all_null Boolean is e a c = absurd (absent e)
+  all_null Fixed is e a c = absurd (absent e)
+  all_null Bytes32 is e a c = absurd (absent e)
+  all_null Bytes64 is e a c = absurd (absent e)
+  all_null List32 is e a c = absurd (absent e)
+  all_null List64 is e a c = absurd (absent e)
+  all_null Struct is e a c = absurd (absent e)
+  all_null Dictionary is e a c = absurd (absent e)
 
   -- those that a bitmap has
-  pub marked-null : (k : Kind) → Is n k → true ≡ has_bitmap k → (a c : ℕ) → null_count (marks_at bs n a c) ≡ (own_field (shown bs (tree_at ns i) a c)).nulls
+  pub marked_null : (k : Kind) → Is n k → true ≡ has_bitmap k → (a c : ℕ) → null_count (marks_at bs n a c) ≡ (own_field (shown bs (tree_at ns i) a c)).nulls
   unfolding shown
-  marked-null Null is e a c = absurd (absent (sym e))
-  marked-null Boolean is e a c = sym (ap (λ (t : Tree). (own_field (shown bs t a c)).nulls) (tree_of Boolean is))
-  marked-null Fixed is e a c = sym (ap (λ (t : Tree). (own_field (shown bs t a c)).nulls) (tree_of Fixed is))
-  marked-null Bytes32 is e a c = sym (ap (λ (t : Tree). (own_field (shown bs t a c)).nulls) (tree_of Bytes32 is))
-  marked-null Bytes64 is e a c = sym (ap (λ (t : Tree). (own_field (shown bs t a c)).nulls) (tree_of Bytes64 is))
-  marked-null List32 is e a c = sym (ap (λ (t : Tree). (own_field (shown bs t a c)).nulls) (tree_of List32 is))
-  marked-null List64 is e a c = sym (ap (λ (t : Tree). (own_field (shown bs t a c)).nulls) (tree_of List64 is))
-  marked-null Struct is e a c = sym (ap (λ (t : Tree). (own_field (shown bs t a c)).nulls) (tree_of Struct is))
-  marked-null Dictionary is e a c = sym (ap (λ (t : Tree). (own_field (shown bs t a c)).nulls) (tree_of Dictionary is))
+  marked_null Null is e a c = absurd (absent (sym e))
+  marked_null Boolean is e a c = sym (ap (λ (t : Tree). (own_field (shown bs t a c)).nulls) (tree_of Boolean is))
+  marked_null Fixed is e a c = sym (ap (λ (t : Tree). (own_field (shown bs t a c)).nulls) (tree_of Fixed is))
+  marked_null Bytes32 is e a c = sym (ap (λ (t : Tree). (own_field (shown bs t a c)).nulls) (tree_of Bytes32 is))
+  marked_null Bytes64 is e a c = sym (ap (λ (t : Tree). (own_field (shown bs t a c)).nulls) (tree_of Bytes64 is))
+  marked_null List32 is e a c = sym (ap (λ (t : Tree). (own_field (shown bs t a c)).nulls) (tree_of List32 is))
+  marked_null List64 is e a c = sym (ap (λ (t : Tree). (own_field (shown bs t a c)).nulls) (tree_of List64 is))
+  marked_null Struct is e a c = sym (ap (λ (t : Tree). (own_field (shown bs t a c)).nulls) (tree_of Struct is))
+  marked_null Dictionary is e a c = sym (ap (λ (t : Tree). (own_field (shown bs t a c)).nulls) (tree_of Dictionary is))
 
   pub window_few : (a c : ℕ) → a + c ≤ n.rows → n.from + a + c ≤ 2147483647
   window_few a c h = omega (arith, (rule KindOrSize).rows)
 
   pub marks_lie : (k : Kind) (place a c : ℕ) → Is n k → true ≡ has_bitmap k → bitmap_of n ≡ Some place → a + c ≤ n.rows → Lies bs place (bytes_for (n.from + a + c))
-  marks_lie k place a c is b e h = bits-within place (n.from + a + c) (n.from + n.rows) (length bs) (omega arith) ((rule Place).bitmap k place is (sym b) e)
+  marks_lie k place a c is b e h = bits_within place (n.from + a + c) (n.from + n.rows) (length bs) (omega arith) ((rule Place).bitmap k place is (sym b) e)
 
   -- ---- byte strings and elements
 

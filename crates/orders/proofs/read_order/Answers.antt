@@ -1,6 +1,6 @@
 use Rattle.std.proofs.Common.{◌+◌, map, length, sym, refl, ap, subst, inl, arith, true-eqb, false-eqb}
 use Rattle.orders.specs.Orders.{spelled, cases_in, Followed, BadLine}
-use Rattle.orders.proofs.Lines.{Sofar, none_yet, fits, one_more, first-bad, all_done, after_less}
+use Rattle.orders.proofs.Lines.{Sofar, none_yet, fits, one_more, first_bad, all_done, after_less}
 use Rattle.orders.proofs.read_order.Goals as goal
 
 pub loop-rest-init : goal.loop-rest-init
@@ -15,7 +15,7 @@ pub returns-in-Err : goal.returns-in-Err
 returns-in-Err c =
     let rest = c.loop-rest.rest.now in
     let some = false-eqb (length rest) 0 c.loop-rest-test.ensures in
-    inl (first-bad c.loop-rest.invariant (omega arith) _ refl (subst (λ line. BadLine line c.in-Err.why) c.split_line.ensures.line c.in-Err.ensures))
+    inl (first_bad c.loop-rest.invariant (omega arith) _ refl (subst (λ line. BadLine line c.in-Err.why) c.split_line.ensures.line c.in-Err.ensures))
 
 pub loop-rest-smaller : goal.loop-rest-smaller
 loop-rest-smaller c =

@@ -2,7 +2,7 @@ use Rattle.std.proofs.Common.{◌≡◌, ℕ, List, ap, ◌∙◌, w64, SFits, o
 use Rattle.std.proofs.lemmas.Int.{to_z-of_z}
 use Rattle.layout.specs.Lists.{put}
 use Rattle.layout.specs.Numbers.{wide, le, twos, signed_at}
-use Rattle.layout.proofs.Numbers.{le-twos, signed-put}
+use Rattle.layout.proofs.Numbers.{le-twos, signed_put}
 use Rattle.layout.proofs.number.write_signed.Goals as goal
 
 pub returns : goal.returns
@@ -17,5 +17,5 @@ returns c =
     record {
       after = after;
       back = ap (λ (bs : List ℕ). signed_at bs c.args.place c.args.width) after
-          ∙ signed-put c.args.out.now c.args.place c.args.width c.args.value c.requires.within c.requires.fits;
+          ∙ signed_put c.args.out.now c.args.place c.args.width c.args.value c.requires.within c.requires.fits;
     }

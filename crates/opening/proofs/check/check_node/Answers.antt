@@ -1,6 +1,6 @@
 use Rattle.std.proofs.Common.{sym, ◌∙◌, inl, inr, arith}
 use Rattle.layout.specs.Nodes.{nodes_of}
-use Rattle.opening.proofs.Order.{no_kind, breaks_table, breaks_shape, breaks_depth, breaks_places, ready, breaks_offsets, breaks_keys, none-broken}
+use Rattle.opening.proofs.Order.{no_kind, breaks_table, breaks_shape, breaks_depth, breaks_places, ready, breaks_offsets, breaks_keys, none_broken}
 use Rattle.opening.proofs.check.check_node.Goals as goal
 
 pub returns-in_default : goal.returns-in_default
@@ -55,6 +55,6 @@ returns-then-not-keeps_keys c =
 
 pub returns : goal.returns
 returns c =
-    none-broken (nodes_of c.args.nodes.now) c.args.bytes.now c.args.i c.at-node.result c.in-Some.kind c.at-node.ensures c.in-Some.ensures
+    none_broken (nodes_of c.args.nodes.now) c.args.bytes.now c.args.i c.at-node.result c.in-Some.kind c.at-node.ensures c.in-Some.ensures
     c.if-not-keeps_table.ensures (sym c.if-not-keeps_nesting.ensures) (omega (arith, c.requires.deep)) c.if-not-keeps_places.ensures c.if-not-keeps_offsets.ensures
     c.if-not-keeps_keys.ensures

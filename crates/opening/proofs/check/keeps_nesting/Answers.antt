@@ -2,12 +2,12 @@ use Rattle.std.proofs.Common.{◌+◌, ◌-◌, ◌/◌, length, ap, ◌∙◌, 
 use Rattle.layout.specs.declared.node.Node.{Node}
 use Rattle.layout.specs.Nodes.{nodes_of, node_at}
 use Rattle.layout.proofs.Nodes.{length-nodes}
-use Rattle.layout.proofs.Walk.{fits_tells, walk_start, walk_more, walk_unfit, walk_rows, walk_end, span-unfit}
+use Rattle.layout.proofs.Walk.{fits_tells, walk_start, walk_more, walk_unfit, walk_rows, walk_end, span_unfit}
 use Rattle.opening.proofs.check.keeps_nesting.Goals as goal
 
 pub returns-then-not-spans_within : goal.returns-then-not-spans_within
 returns-then-not-spans_within c =
-    span-unfit (nodes_of c.args.nodes.now) c.args.kind c.args.i c.at-node.result (length c.args.nodes.now / 80 - c.args.i) c.at-node.ensures
+    span_unfit (nodes_of c.args.nodes.now) c.args.kind c.args.i c.at-node.result (length c.args.nodes.now / 80 - c.args.i) c.at-node.ensures
     (omega (arith, length-nodes c.args.nodes.now)) c.if-not-spans_within.ensures
 
 pub loop-p-init : goal.loop-p-init

@@ -2,7 +2,7 @@ use Rattle.std.proofs.Common.{◌<◌, ◌≤◌, length, drop, Ok, vec_items, s
 use Rattle.std.proofs.lemmas.List.{take_rest}
 use Rattle.orders.specs.Texts.{unblanked}
 use Rattle.orders.specs.Hexes.{before, pairs_in, or_not_hex}
-use Rattle.orders.proofs.Pairs.{after, after_none, after-before, skip_le, skip_twice, pairs_skip, pairs_step, pairs_one, pairs_none}
+use Rattle.orders.proofs.Pairs.{after, after_none, after_before, skip_le, skip_twice, pairs_skip, pairs_step, pairs_one, pairs_none}
 use Rattle.orders.proofs.hex.read_pairs.Goals as goal
 
 pub loop-rest-init : goal.loop-rest-init
@@ -29,7 +29,7 @@ loop-rest-preserved c =
     let e = c.skip_blanks-rest-in-len2-up.ensures ∙ ap unblanked (take_rest rest 2) in
     let step = pairs_step rest c.loop-rest.invariant.0 two ∙ ap (λ o. before o (pairs_in (drop 2 rest))) (sym c.in-Some.ensures) in (
       ap unblanked e ∙ skip_twice (drop 2 rest) ∙ sym e,
-      c.loop-rest.invariant.1 ∙ ap (after old) step ∙ after-before old c.in-Some.byte (pairs_in (drop 2 rest))
+      c.loop-rest.invariant.1 ∙ ap (after old) step ∙ after_before old c.in-Some.byte (pairs_in (drop 2 rest))
           ∙ ap (λ xs. after xs (pairs_in (drop 2 rest))) (sym c.in_ok-push.ensures.items)
           ∙ ap (after (vec_items c.push.new.self)) (pairs_skip (drop 2 rest) ∙ ap pairs_in (sym e)),
     )

@@ -4,13 +4,13 @@ use Rattle.layout.specs.Bits.{bytes_for}
 use Rattle.layout.specs.Nodes.{nodes_of, node_at, bitmap_of}
 use Rattle.layout.specs.Messages.{null_count}
 use Rattle.layout.specs.Windows.{marks_in}
-use Rattle.recording.proofs.Windows.{all-null, marked-null, window_few, marks_lie}
+use Rattle.recording.proofs.Windows.{all_null, marked_null, window_few, marks_lie}
 use Rattle.recording.proofs.recording.Recording.null_count.Goals as goal
 
 pub returns-then-not-has_bitmap : goal.returns-then-not-has_bitmap
 returns-then-not-has_bitmap c =
     let s = c.args.self.now in
-    all-null (nodes_of s.nodes.now) s.bytes.now s.opened c.args.w.node c.requires.stands c.kind.result c.kind.ensures c.if-not-has_bitmap.ensures c.args.w.first c.args.w.rows
+    all_null (nodes_of s.nodes.now) s.bytes.now s.opened c.args.w.node c.requires.stands c.kind.result c.kind.ensures c.if-not-has_bitmap.ensures c.args.w.first c.args.w.rows
 
 pub overflow_add-node : goal.overflow_add-node
 overflow_add-node c =
@@ -35,7 +35,7 @@ returns-in-None c =
     let s = c.args.self.now in
     let n = node_at (nodes_of s.nodes.now) c.args.w.node in
     ap (λ (o : Option ℕ). null_count (marks_in s.bytes.now o (n.from + c.args.w.first) c.args.w.rows)) (c.in-None.ensures ∙ ap bitmap_of c.node-node.ensures.value)
-    ∙ marked-null (nodes_of s.nodes.now) s.bytes.now s.opened c.args.w.node c.requires.stands c.kind.result c.kind.ensures c.if-not-has_bitmap.ensures c.args.w.first c.args.w.rows
+    ∙ marked_null (nodes_of s.nodes.now) s.bytes.now s.opened c.args.w.node c.requires.stands c.kind.result c.kind.ensures c.if-not-has_bitmap.ensures c.args.w.first c.args.w.rows
 
 pub returns-in-Some : goal.returns-in-Some
 returns-in-Some c =
@@ -44,4 +44,4 @@ returns-in-Some c =
     c.count_zeros.ensures
     ∙ ap (λ (m : Node). null_count (marks_in s.bytes.now (Some c.in-Some.place) (m.from + c.args.w.first) c.args.w.rows)) c.node-node.ensures.value
     ∙ ap (λ (o : Option ℕ). null_count (marks_in s.bytes.now o (n.from + c.args.w.first) c.args.w.rows)) (c.in-Some.ensures ∙ ap bitmap_of c.node-node.ensures.value)
-    ∙ marked-null (nodes_of s.nodes.now) s.bytes.now s.opened c.args.w.node c.requires.stands c.kind.result c.kind.ensures c.if-not-has_bitmap.ensures c.args.w.first c.args.w.rows
+    ∙ marked_null (nodes_of s.nodes.now) s.bytes.now s.opened c.args.w.node c.requires.stands c.kind.result c.kind.ensures c.if-not-has_bitmap.ensures c.args.w.first c.args.w.rows

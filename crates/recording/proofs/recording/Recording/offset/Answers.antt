@@ -2,7 +2,7 @@ use Rattle.std.proofs.Common.{ℕ, ◌+◌, ◌*◌, ◌<◌, ◌≤◌, sym, ap
 use Rattle.layout.specs.declared.node.Node.{Node}
 use Rattle.layout.specs.Nodes.{nodes_of}
 use Rattle.layout.specs.Numbers.{unsigned_at}
-use Rattle.recording.proofs.Reading.{offset_there, offset-is, offset-reach}
+use Rattle.recording.proofs.Reading.{offset_there, offset_is, offset_reach}
 use Rattle.recording.proofs.recording.Recording.offset.Goals as goal
 
 pub slot_place-place-requires : goal.slot_place-place-requires
@@ -28,10 +28,10 @@ returns c =
     let row = subst (λ (n : Node). c.args.r ≤ n.rows) back c.requires.row in
     let some = subst (λ (n : Node). 0 < n.rows) back c.requires.some in
     let place = c.slot_place-place.ensures ∙ ap (λ (w : ℕ). c.node-node.result.slots + (c.node-node.result.from + c.args.r) * w) c.bytes.ensures in
-    let value = offset-is ns bs c.args.self.now.opened.1 c.args.i c.node-node.result c.node-node.ensures.value c.node-node.ensures.rules c.args.r c.args.width c.read_unsigned.result
+    let value = offset_is ns bs c.args.self.now.opened.1 c.args.i c.node-node.result c.node-node.ensures.value c.node-node.ensures.rules c.args.r c.args.width c.read_unsigned.result
     row some c.requires.is (c.read_unsigned.ensures ∙ ap (λ (p : ℕ). unsigned_at bs p c.args.width) place) in
     record {
       value = value;
       bound = λ k is.
-          omega (arith, value, offset-reach ns bs c.args.self.now.opened.1 c.args.i c.node-node.result c.node-node.ensures.value c.node-node.ensures.rules c.args.r c.args.width row some c.requires.is k is);
+          omega (arith, value, offset_reach ns bs c.args.self.now.opened.1 c.args.i c.node-node.result c.node-node.ensures.value c.node-node.ensures.rules c.args.r c.args.width row some c.requires.is k is);
     }
