@@ -1,5 +1,5 @@
 #!/usr/bin/env python3
-"""Brings the repository's own definitions and lemmas to today's spelling of names. It ran once, after the kit's own scripts.
+"""Brings the repository's own definitions and lemmas to today's spelling of names. It runs after the kit's own scripts, and a second time changes nothing.
 
 A definition, a constructor, a field or a lemma is in snake case; a dash stays where it joins the names of two functions, as in `length-rows`.
 Types, facts and modules keep their upper camel case, and whatever Rattle or the source names keeps its spelling.

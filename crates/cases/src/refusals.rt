@@ -79,7 +79,10 @@ fn line_holds(rt: &impl Abort, heap: Global, line: &str) -> Result<(), Fail> {
 fn table(rt: HostRuntime) -> Result<(), Fail> {
     for line in TABLE.lines() {
         if !line.starts_with('#') {
-            line_holds(&rt, rt.alloc(), line)?;
+            if let Err(fail) = line_holds(&rt, rt.alloc(), line) {
+                let _ = eprintln!(rt; "{line}");
+                return Err(fail);
+            }
         }
     }
     Ok(())

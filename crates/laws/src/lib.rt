@@ -14,7 +14,8 @@ pub fn round_trip_stands()
     ensures { RoundTrip }
 {}
 
-/// A dictionary's message sets the values of its id, and a delta of the later rows makes them those of the whole window.
+/// The message of a dictionary in which no dictionary is met sets the values of its id, and a delta of the later rows makes them those of the
+/// whole window.
 pub fn dictionaries_heard_stands()
     ensures { Heard }
 {}
