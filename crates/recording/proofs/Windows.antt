@@ -78,40 +78,29 @@ module _ (ns : List Node) (bs : List ℕ) (kept : Kept ns bs) (i : ℕ) (l : i <
     pub rises : offset_at bs w n r ≤ offset_at bs w n (r + 1)
     pub ends : offset_at bs w n (r + 1) ≤ most
 
-  between : (k : Kind) (w : Width) (r : ℕ) → Is n k → offset_width k ≡ Some w → r < n.rows → Between (wide w) r (reach k ns i)
+  pub between : (k : Kind) (w : Width) (r : ℕ) → Is n k → offset_width k ≡ Some w → r < n.rows → Between (wide w) r (reach k ns i)
   between k w r is e h = let q = rule Offset k w is e in record { rises = q.rises r h; ends = q.within (omega arith) (r + 1) (omega arith) }
 
-  pub string_between : (k : Kind) (w : Width) (r : ℕ) → Is n k → offset_width k ≡ Some w → has_data k ≡ true → r < n.rows → Between (wide w) r n.extent
-  string_between k w r is e d h = subst (λ (m : ℕ). Between (wide w) r m) (extent_of k d) (between k w r is e h)
-    where
-      extent_of : (k : Kind) → has_data k ≡ true → reach k ns i ≡ n.extent
-      extent_of Null d = absurd (absent d)
-      extent_of Boolean d = absurd (absent d)
-      extent_of Fixed d = absurd (absent d)
-      extent_of Bytes32 d = refl
-      extent_of Bytes64 d = refl
-      extent_of List32 d = absurd (absent d)
-      extent_of List64 d = absurd (absent d)
-      extent_of Struct d = absurd (absent d)
-      extent_of Dictionary d = absurd (absent d)
+  extent_of : (k : Kind) → has_data k ≡ true → reach k ns i ≡ n.extent
+  extent_of Null d = absurd (absent d)
+  extent_of Boolean d = absurd (absent d)
+  extent_of Fixed d = absurd (absent d)
+  extent_of Bytes32 d = refl
+  extent_of Bytes64 d = refl
+  extent_of List32 d = absurd (absent d)
+  extent_of List64 d = absurd (absent d)
+  extent_of Struct d = absurd (absent d)
+  extent_of Dictionary d = absurd (absent d)
 
-  pub data_lies_lem : (k : Kind) → Is n k → has_data k ≡ true → n.«data» + n.extent ≤ length bs
-  data_lies_lem k is d = (rule Place).strings k is d
-
-  -- the data of a row, from its offset x to its end y, lie within the bytes
-  pub record StringLies (m : Node) (x y : ℕ) : Type 0 where
-    pub ordered : x ≤ y
-    pub within : m.«data» + y ≤ length bs
-
-  pub string_lies : (k : Kind) (w : Width) (r : ℕ) → Is n k → offset_width k ≡ Some w → has_data k ≡ true → r < n.rows
-      → (m : Node) (x y : ℕ) → m ≡ n → x ≡ offset_at bs (wide w) n r → y ≡ offset_at bs (wide w) n (r + 1) → StringLies m x y
-  string_lies k w r is e d h m x y same start end =
-      let b = string_between k w r is e d h in
-      let l = data_lies_lem k is d in
+  -- data up to where an offset may reach lie within the bytes
+  pub string_ends : (k : Kind) → Is n k → has_data k ≡ true → (m : Node) (y : ℕ) → m ≡ n → y ≤ reach k ns i → m.«data» + y ≤ length bs
+  string_ends k is d m y same h =
+      let e = extent_of k d in
+      let l = (rule Place).strings k is d in
       let q : m.«data» ≡ n.«data» = ap (λ (n : Node). n.«data») same in
-      record { ordered = omega (arith, b.rises); within = omega (arith, b.ends, l) }
+      omega arith
 
-  -- and they are the row's byte string
+  -- those of a row, from its offset x to its end y, are its byte string
   pub string_cut : (w r : ℕ) (m : Node) (x y : ℕ) → m ≡ n → x ≡ offset_at bs w n r → y ≡ offset_at bs w n (r + 1) → cut (m.«data» + x) (m.«data» + y - (m.«data» + x)) bs ≡ string_at bs w n r
   string_cut w r m x y same start end =
       let q : m.«data» ≡ n.«data» = ap (λ (n : Node). n.«data») same in
@@ -134,8 +123,8 @@ module _ (ns : List Node) (bs : List ℕ) (kept : Kept ns bs) (i : ℕ) (l : i <
   listed Struct w e d = absurd (let z : ◌≡◌ {A = ℕ} 0 1 = cc in omega arith)
   listed Dictionary w e d = absurd (let z : ◌≡◌ {A = ℕ} 0 1 = cc in omega arith)
 
-  pub elements_between : (k : Kind) (w : Width) (r : ℕ) → Is n k → offset_width k ≡ Some w → has_data k ≡ false → r < n.rows → Between (wide w) r (node_at ns (i + 1)).rows
-  elements_between k w r is e d h = subst (λ (m : ℕ). Between (wide w) r m) (listed k w e d).0 (between k w r is e h)
+  pub elements_end : (k : Kind) (w : Width) (y : ℕ) → offset_width k ≡ Some w → has_data k ≡ false → y ≤ reach k ns i → y ≤ (node_at ns (i + 1)).rows
+  elements_end k w y e d h = subst (λ (m : ℕ). y ≤ m) (listed k w e d).0 h
 
   pub list_child : (k : Kind) (w : Width) → Is n k → offset_width k ≡ Some w → has_data k ≡ false → i + 1 < length ns
   list_child k w is e d = child_stands ns i (rule Nesting) k is (listed k w e d).1

@@ -1,15 +1,15 @@
-ghost use Rattle.std.specs.Prelude.{◌≡◌, ℕ, ◌+◌, ◌-◌, ◌*◌, ◌/◌, ◌%◌, ◌^◌, ◌<◌, ◌≤◌, length};
+ghost use Rattle.std.specs.Prelude.{◌≡◌, ◌+◌, ◌<◌, ◌≤◌, length};
 ghost use Rattle.layout.specs.Columns.{ColumnsAnswer};
 ghost use Rattle.layout.specs.Messages.{own_field};
-ghost use Rattle.layout.specs.Rows.{string_at, count_at, offset_at};
+ghost use Rattle.layout.specs.Rows.{string_at, offset_at};
 ghost use Rattle.layout.specs.Numbers.{wide};
-ghost use Rattle.layout.specs.Rules.{Is, HasOffsets};
-ghost use Rattle.layout.specs.Windows.{Inside, shown_in, value_in, passed_to, ChildOf};
+ghost use Rattle.layout.specs.Rules.{Is, HasOffsets, reach};
+ghost use Rattle.layout.specs.Windows.{Inside, shown_in};
 ghost use Rattle.recording.specs.View.{nodes_in, bytes_in, node_of};
-ghost use Rattle.recording.specs.Windows.{window_at, window_in, elements_at, HasStrings, HasElements, Made, meaning, Reaches};
+ghost use Rattle.recording.specs.Windows.{window_at, window_in, elements_at, HasStrings, HasElements, Made};
 
 use crate::recording::Recording;
-use crate::window::{RowValue, Window};
+use crate::window::Window;
 use layout::{Fault, Kind, Refusal, Width, count_zeros};
 
 /// How many rows a batch may have.
@@ -77,6 +77,19 @@ impl<'a> Recording<'a> {
         }
     }
 
+    // Where row r of node i, a Bytes or a List, begins and ends in the data or among the child's rows.
+    fn bounds_of(&self, i: usize, r: u64, width: Width) -> (u64, u64)
+        requires stands { i < length (nodes_in self.now) }
+        requires row { r < (node_of self.now i).rows }
+        requires is { HasOffsets (node_of self.now i) width }
+        ensures first { result.0 ≡ offset_at (bytes_in self.now) (wide width) (node_of self.now i) r }
+        ensures end { result.1 ≡ offset_at (bytes_in self.now) (wide width) (node_of self.now i) (r + 1) }
+        ensures rises { result.0 ≤ result.1 }
+        ensures bound { (k : Kind) → Is (node_of self.now i) k → result.1 ≤ reach k (nodes_in self.now) i }
+    {
+        (self.offset(i, r, width), self.offset(i, r + 1, width))
+    }
+
     /// The byte string of row r of node i, a Bytes.
     pub fn string(&self, i: usize, r: u64, width: Width) -> &'a [u8]
         requires stands { i < length (nodes_in self.now) }
@@ -85,9 +98,8 @@ impl<'a> Recording<'a> {
         ensures { result.now ≡ string_at (bytes_in self.now) (wide width) (node_of self.now i) r }
     {
         let data = self.node(i).data;
-        let start = (data + self.offset(i, r, width)) as usize;
-        let end = (data + self.offset(i, r + 1, width)) as usize;
-        &self.bytes[start..end]
+        let (first, end) = self.bounds_of(i, r, width);
+        &self.bytes[(data + first) as usize..(data + end) as usize]
     }
 
     /// The elements of row r of node i, a List: rows of its child.
@@ -98,12 +110,11 @@ impl<'a> Recording<'a> {
         ensures rows { window_in self.now result ≡ elements_at self.now i r width }
         ensures inside { Inside (window_in self.now result) }
     {
-        let first = self.offset(i, r, width);
-        let rows = self.offset(i, r + 1, width) - first;
+        let (first, end) = self.bounds_of(i, r, width);
         Window {
             node: i + 1,
             first,
-            rows,
+            rows: end - first,
         }
     }
 }
