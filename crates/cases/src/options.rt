@@ -1,13 +1,11 @@
 //! Options and numbers.
-use layout::{Width, read_signed, read_unsigned, write_signed};
+use layout::{Width, read, write};
 use recording::{DictionaryHandling, IpcWriteOptions};
 
 // The alignment that is set, or the number of the refusal.
 fn aligned(alignment: usize) -> Result<usize, u32> {
-    match IpcWriteOptions::try_new(alignment) {
-        Ok(options) => Ok(options.alignment()),
-        Err(fault) => Err(fault.number()),
-    }
+    let options = IpcWriteOptions::try_new(alignment).map_err(|fault| fault.number())?;
+    Ok(options.alignment())
 }
 
 #[test]
@@ -24,22 +22,22 @@ fn alignments(rt: HostRuntime) {
 fn defaults(rt: HostRuntime) {
     let options = IpcWriteOptions::default();
     assert_eq!(rt; options.alignment(), 64);
-    assert!(rt; matches!(options.dictionary_handling(), DictionaryHandling::Resend));
+    assert_eq!(rt; options.dictionary_handling(), DictionaryHandling::Resend);
     assert_eq!(rt; options.error_on_replacement(), false);
     let delta = options
         .with_dictionary_handling(DictionaryHandling::Delta)
         .with_error_on_replacement(true);
-    assert!(rt; matches!(delta.dictionary_handling(), DictionaryHandling::Delta));
+    assert_eq!(rt; delta.dictionary_handling(), DictionaryHandling::Delta);
     assert_eq!(rt; delta.error_on_replacement(), true);
 }
 
 #[test]
 fn numbers(rt: HostRuntime) {
     let mut bytes = [0x55u8; 10];
-    write_signed(&mut bytes, 1, Width::Eight, -2);
-    assert_eq!(rt; read_signed(&bytes, 1, Width::Eight), -2);
-    assert_eq!(rt; read_signed(&bytes, 1, Width::One), -2);
-    assert_eq!(rt; read_unsigned(&bytes, 1, Width::Two), 0xfffe);
-    assert_eq!(rt; read_unsigned(&bytes, 0, Width::Four), 0xffff_fe55);
-    assert_eq!(rt; read_signed(&bytes, 8, Width::Two), 0x55ff);
+    write::<i64>(&mut bytes[1..], Width::Eight, -2);
+    assert_eq!(rt; read::<i64>(&bytes[1..], Width::Eight), -2);
+    assert_eq!(rt; read::<i64>(&bytes[1..], Width::One), -2);
+    assert_eq!(rt; read::<u64>(&bytes[1..], Width::Two), 0xfffe);
+    assert_eq!(rt; read::<u64>(&bytes, Width::Four), 0xffff_fe55);
+    assert_eq!(rt; read::<i64>(&bytes[8..], Width::Two), 0x55ff);
 }

@@ -9,7 +9,7 @@ use Rattle.layout.specs.Bits.{byte_of, bytes_for, pack, bit_of, bit_at, zeros}
 use Rattle.laws.proofs.Good.{Each}
 use mir.Val.{bool_byte}
 use Rattle.layout.proofs.Lists.{get_or_rows, length-rows}
-use Rattle.layout.proofs.Numbers.{length-le, unle-le}
+use Rattle.layout.specs.Spelling.{length-le, unle-le}
 use Rattle.laws.proofs.Lists.{cut_fixed}
 
 -- ---- bits

@@ -14,7 +14,7 @@ use Rattle.laws.proofs.Good.{AtMost}
 use Rattle.layout.specs.Shown.{Bits, Marks, Shown, Showns, nulls, bools, fixed, bytes, lists, struct, dictionary, none, more}
 use Rattle.layout.specs.Messages.{bit_bytes, mark_bytes, offsets, offset_bytes, fields, fields_all, buffers, buffers_all}
 use Rattle.layout.proofs.Lists.{length-rows}
-use Rattle.layout.proofs.Numbers.{length-le}
+use Rattle.layout.specs.Spelling.{length-le}
 use Rattle.laws.proofs.Says.{passed}
 use Rattle.laws.proofs.Places.{bits_made, slots_joined, strings_joined}
 use Rattle.laws.proofs.Round.{length-offsets}

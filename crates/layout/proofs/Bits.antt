@@ -5,6 +5,7 @@ use mir.Val.{bool_byte}
 use Rattle.std.proofs.lemmas.Nat.{pow_pos, shr_split, shr_high, mod_low, and_le_l, and_comm, and_mask, and_shr, and_mod, mul-le}
 use Rattle.std.proofs.lemmas.Bool.{and_right, eq-eqb, ne_eqb}
 use Rattle.layout.specs.Lists.{rows, every}
+use Rattle.layout.proofs.Every.{turned}
 use Rattle.layout.specs.Bits.{bit_of, zeros, flags}
 
 pub zeros_first : (b : Bool) (bs : List Bool) → zeros (b ∷ bs) ≡ cond b 0 1 + zeros bs
@@ -88,9 +89,3 @@ flags_masked (suc n) f b =
 
     low_flags : (n : ℕ) (f : ℕ → Bool) → flags (suc n) f % 2 ^ n ≡ flags n f
     low_flags n f = ap (λ (m : ℕ). m % 2 ^ n) (add_comm (flags n f) (bool_byte (f n) * 2 ^ n)) ∙ mod_low (bool_byte (f n)) n (flags n f) (flags_small n f)
-
-    turned : (x y : Bool) → (x && y) ≡ (y && x)
-    turned true true = refl
-    turned true false = refl
-    turned false true = refl
-    turned false false = refl

@@ -1,5 +1,5 @@
 -- Tests of every number below a bound, of every member, and of what may be absent.
-use Rattle.std.proofs.Common.{◌≡◌, ℕ, zero, suc, ◌+◌, ◌<◌, Bool, true, false, cond, ◌&&◌, Some, None, Option, refl, ap, ◌∙◌, inl, inr, add-suc, add-one, arith}
+use Rattle.std.proofs.Common.{◌≡◌, ℕ, zero, suc, ◌+◌, ◌<◌, Bool, true, false, cond, ◌&&◌, Some, None, Option, refl, ap, ◌∙◌, inl, inr, add-suc, arith}
 use Rattle.std.proofs.lemmas.Bool.{and_left, and_right, and_from, and_parts, cases_eq}
 use Rattle.layout.specs.Lists.{every}
 use Rattle.layout.specs.Tests.{passes}
@@ -29,15 +29,11 @@ pub every_same : (n : ℕ) (p q : ℕ → Bool) → ((k : ℕ) → k < n → p k
 every_same zero p q h = refl
 every_same (suc n) p q h = rw (h n (omega arith), every_same n p q (λ k l. h k (omega arith)))
 
-turned : (x y : Bool) → (x && y) ≡ (y && x)
+pub turned : (x y : Bool) → (x && y) ≡ (y && x)
 turned true true = refl
 turned true false = refl
 turned false true = refl
 turned false false = refl
-
--- the step of a loop that looks at each
-pub every_next : (n : ℕ) (p : ℕ → Bool) (ok t : Bool) → ok ≡ every n p → t ≡ p n → (ok && t) ≡ every (n + 1) p
-every_next n p ok t h e = rw (add-one, h, e) (turned (every n p) (p n))
 
 -- what may be absent
 pub passes_at : {X : Type 0} (o : Option X) (p : X → Bool) (x : X) → passes o p ≡ true → o ≡ Some x → p x ≡ true

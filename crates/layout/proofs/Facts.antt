@@ -1,5 +1,7 @@
 -- What the rules tell of a node by its kind, for those that read it.
-use Rattle.std.proofs.Common.{◌≡◌, ℕ, ◌+◌, ◌*◌, ◌<◌, ◌≤◌, true, List, length, is_some, Some, None, Option, sym, refl, ap, ◌∙◌, subst, arith}
+use Rattle.std.proofs.Common.{◌≡◌, ℕ, ◌+◌, ◌*◌, ◌<◌, ◌≤◌, true, List, length, is_some, Some, None, Option, Ok, Err, sym, refl, ap, ◌∙◌, subst, arith}
+use Rattle.std.specs.Prelude.{is_ok}
+use Rattle.std.specs.Option.{ok_or}
 use Rattle.layout.specs.declared.kind.Kind.{Kind}
 use Rattle.layout.specs.declared.kind.Kind.TheVariants.{Null, Boolean, Fixed, Bytes32, Bytes64, List32, List64, Struct, Dictionary}
 use Rattle.layout.specs.declared.node.Node.{Node}
@@ -12,6 +14,20 @@ use Rattle.layout.specs.Nodes.{node_at}
 use Rattle.layout.specs.Rules.{Is, Tabled, Nested, Placed, Lies, SizeFits, ChildrenFit}
 use Rattle.layout.proofs.Table.{kind_of_lem, width_of_lem}
 use Rattle.layout.proofs.Kids.{one_child}
+
+-- what a conversion tells whose answer is that of a look-up
+module _ {X E : Type 0} where
+  pub found : (o : Option X) (e : E) (x : X) → ok_or o e ≡ Ok x → o ≡ Some x
+  found None e x h = let z : ◌≡◌ {A = ℕ} 0 1 = cc in absurd (omega arith)
+  found (Some y) e x h = cc
+
+  pub missed : (o : Option X) (e q : E) → ok_or o e ≡ Err q → (o ≡ None) × (q ≡ e)
+  missed None e q h = (refl, cc)
+  missed (Some y) e q h = let z : ◌≡◌ {A = ℕ} 0 1 = cc in absurd (omega arith)
+
+  pub answered : (o : Option X) (e : E) → is_some o ≡ true → is_ok (ok_or o e) ≡ true
+  answered None e h = h
+  answered (Some x) e h = refl
 
 -- a node is of one kind
 pub one_kind : (n : Node) (k l : Kind) → Is n k → Is n l → k ≡ l
@@ -30,9 +46,6 @@ module _ (n : Node) (t : Tabled n) where
   size_of k is = subst (λ (k : Kind). SizeFits k n.size) (one_kind n t.kind k t.is is) t.size
 
   -- values have at least one byte, and few
-  pub fixed_size : Is n Fixed → (1 ≤ n.size) × (n.size ≤ 256)
-  fixed_size is = size_of Fixed is
-
   pub key_size : Is n Dictionary → (w : Width) × (n.size ≡ wide w)
   key_size is = size_of Dictionary is
 
@@ -46,9 +59,6 @@ module _ (n : Node) (t : Tabled n) where
       let f : Some s.0 ≡ Some w = sym (width_of_lem s.0) ∙ ap width_of (sym s.1) ∙ e in
       let g : s.0 ≡ w = cc in
       s.1 ∙ ap wide g
-
-  pub key_small : Is n Dictionary → n.size ≤ 8
-  key_small is = let s = key_size is in rw s.1 (small_width s.0)
 
 module _ (bs : List ℕ) (n : Node) (p : Placed bs n) where
   pub bits_lie : Is n Boolean → Lies bs n.slots (bytes_for (n.from + n.rows))

@@ -1,7 +1,6 @@
 -- Rows and parts of lists.
-use Rattle.std.proofs.Common.{◌≡◌, ℕ, zero, suc, ◌+◌, ◌-◌, ◌<◌, ◌≤◌, List, ◌∷◌, ◌++◌, length, get_or, take, drop, sym, refl, ap, ◌∙◌, ap₂, le_of_suc-le-suc, not-suc-le-zero, arith, length-append, length-drop, length-take-le, take-take}
+use Rattle.std.proofs.Common.{◌≡◌, ℕ, zero, suc, ◌+◌, ◌-◌, ◌<◌, ◌≤◌, List, ◌∷◌, ◌++◌, length, get_or, take, drop, sym, refl, ap, ◌∙◌, ap₂, le_of_suc-le-suc, not-suc-le-zero, arith, length-append, length-drop, length-take-le, take_all, take-take}
 use lib.Seq.{take-append-le}
-use Rattle.std.proofs.lemmas.List.{drop_at, take_at}
 use Rattle.std.proofs.lemmas.Slice.{between_is}
 use Rattle.layout.specs.Lists.{rows, cut, put}
 
@@ -22,12 +21,7 @@ length-rows (suc n) f = ap suc (length-rows n (λ i. f (suc i)))
 pub length_cut : {X : Type 0} (k w : ℕ) (bs : List X) → k + w ≤ length bs → length (cut k w bs) ≡ w
 length_cut k w bs h = length-take-le w (drop k bs) (simp length-drop (omega arith))
 
--- the part that was put is there
-pub cut-put : {X : Type 0} (p w : ℕ) (ys xs : List X) → length ys ≡ w → p ≤ length xs → cut p w (put p ys xs) ≡ ys
-cut-put p w ys xs e h =
-    rw (drop_at (take p xs) (ys ++ drop (p + length ys) xs) p (length-take-le p xs h), take_at ys (drop (p + length ys) xs) w e)
-
--- and what stands before it is as it was
+-- what stands before the part that was put is as it was
 pub cut_before : {X : Type 0} (q w p : ℕ) (ys xs : List X) → q + w ≤ p → p ≤ length xs → cut q w (put p ys xs) ≡ cut q w xs
 cut_before {X} q w p ys xs h l =
     let n : ℕ = q + w in
@@ -38,3 +32,7 @@ cut_before {X} q w p ys xs h l =
 
 pub length-put : {X : Type 0} (p : ℕ) (ys xs : List X) → p + length ys ≤ length xs → length (put p ys xs) ≡ length xs
 length-put p ys xs h = simp (length-append, length-drop) (omega (arith, length-take-le p xs (omega arith)))
+
+-- what a slice from a place on holds
+pub rest_is : {X : Type 0} (p : ℕ) (xs : List X) → take (length xs - p) (drop p xs) ≡ drop p xs
+rest_is p xs = take_all (length xs - p) (drop p xs) (simp length-drop (omega arith))

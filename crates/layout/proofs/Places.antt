@@ -9,10 +9,6 @@ slot_within place x y w v len e l h =
     let more : (x + 1) * w ≡ x * w + w = rw (add-one, suc-mul) in
     rw e (omega (arith, mul-le (x + 1) w y w (omega arith) (omega arith)))
 
--- so many slots of w bytes each are few enough to count
-pub slots_few : (x w n m : ℕ) → x ≤ n → w ≤ m → x * w ≤ n * m
-slots_few x w n m a b = mul-le x w n m a b
-
 -- bit x of y, from a place on
 pub bit_within : (place x y len : ℕ) → x < y → place + bytes_for y ≤ len → place + x / 8 < len
 bit_within place x y len l h = omega arith

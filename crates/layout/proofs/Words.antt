@@ -1,13 +1,13 @@
 -- Bits that are 0, counted by bytes and by words.
-use Rattle.std.proofs.Common.{◌≡◌, ℕ, zero, suc, ◌+◌, ◌-◌, ◌*◌, ◌/◌, ◌%◌, ◌^◌, ◌<◌, ◌≤◌, Bool, cond, eqb, List, [], ◌∷◌, length, get_or, take, drop, sum_by, sym, refl, ap, ◌∙◌, ap₂, mul_comm, add_comm, pow-suc, arith, length-drop, length-take-le, get_or-drop, take_all, get_or-take, drop-drop}
+use Rattle.std.proofs.Common.{◌≡◌, ℕ, zero, suc, ◌+◌, ◌-◌, ◌*◌, ◌/◌, ◌%◌, ◌^◌, ◌<◌, ◌≤◌, min, Bool, true, false, cond, eqb, List, [], ◌∷◌, ◌++◌, length, get_or, take, drop, sum_by, sym, refl, ap, ◌∙◌, ap₂, mul_comm, add_comm, pow-suc, arith, length-drop, length-take-le, get_or-drop, take_all, get_or-take, drop-drop}
 use native.Mathlib.Nat.{div-div-eq-div-mul}
 use lib.Count.{ones, ones_step, ones_cat}
 use Rattle.std.specs.Simd.{first_chunks}
-use Rattle.std.proofs.lemmas.List.Sums.{sum_by-cons, sum_by_more, sum_by-take-drop}
+use Rattle.std.proofs.lemmas.List.Sums.{sum_by-append, sum_by-cons, sum_by-take-drop}
 use Rattle.layout.specs.Lists.{rows}
 use Rattle.layout.specs.Bits.{bit_of, bit_at, zeros, zeros_in}
 use Rattle.layout.specs.Numbers.{unle}
-use Rattle.layout.proofs.Lists.{rows_same}
+use Rattle.layout.proofs.Lists.{rows_same, length-rows}
 use Rattle.layout.proofs.Numbers.{read_8}
 use Rattle.layout.proofs.Bits.{zeros_first}
 
@@ -28,15 +28,15 @@ zeros_add (suc a) b f =
 -- ---- the bits of a number
 
 -- a number's low bits that are 0 are the bits of its complement that are 1
-zeros_of : (k x : ℕ) → x < 2 ^ k → zeros (rows k (bit_of x)) ≡ ones (2 ^ k - 1 - x)
+pub zeros-ones : (k x : ℕ) → x < 2 ^ k → zeros (rows k (bit_of x)) ≡ ones (2 ^ k - 1 - x)
 unfolding ones
-zeros_of zero x h = let e : 2 ^ 0 - 1 - x ≡ 0 = omega arith in rw e
-zeros_of (suc k) x h =
+zeros-ones zero x h = let e : 2 ^ 0 - 1 - x ≡ 0 = omega arith in rw e
+zeros-ones (suc k) x h =
     let p : 2 ^ suc k ≡ 2 ^ k * 2 = pow-suc 2 k in
     let y = 2 ^ suc k - 1 - x in
     let half : y / 2 ≡ 2 ^ k - 1 - x / 2 = omega arith in
     let low : y % 2 ≡ 1 - x % 2 = omega arith in
-    let ih = zeros_of k (x / 2) (omega arith) in
+    let ih = zeros-ones k (x / 2) (omega arith) in
     zeros_first (bit_of x 0) (rows k (λ i. bit_of x (suc i)))
     ∙ ap₂ ◌+◌ (flipped x) (ap zeros (rows_same k (λ i. bit_of x (suc i)) (bit_of (x / 2)) (λ i l. next x i)) ∙ ih)
     ∙ ap₂ (λ (a b : ℕ). a + ones b) (sym low) (sym half)
@@ -67,7 +67,11 @@ bit_first b bs i h =
     let r : i % 8 ≡ i = omega arith in
     rw (q, r)
 
-zeros_cons : (b : ℕ) (bs : List ℕ) → zeros_in (b ∷ bs) ≡ zeros (rows 8 (bit_of b)) + zeros_in bs
+-- how many bits of a byte are 0
+abbrev zeros_of : ℕ → ℕ
+zeros_of b = zeros (rows 8 (bit_of b))
+
+zeros_cons : (b : ℕ) (bs : List ℕ) → zeros_in (b ∷ bs) ≡ zeros_of b + zeros_in bs
 zeros_cons b bs =
     let m : ℕ = 8 * length bs in
     let e : 8 * length (b ∷ bs) ≡ 8 + m = omega arith in
@@ -77,23 +81,17 @@ zeros_cons b bs =
     (ap zeros (rows_same m (λ i. bit_at (b ∷ bs) (8 + i)) (bit_at bs) (λ i h. bit_after b bs i)))
 
 -- each byte adds its own
-zeros_in_lem : (bs : List ℕ) → zeros_in bs ≡ sum_by (λ b. zeros (rows 8 (bit_of b))) bs
+zeros_in_lem : (bs : List ℕ) → zeros_in bs ≡ sum_by zeros_of bs
 zeros_in_lem [] = refl
-zeros_in_lem (b ∷ bs) = zeros_cons b bs ∙ ap (λ (n : ℕ). zeros (rows 8 (bit_of b)) + n) (zeros_in_lem bs) ∙ sym (sum_by-cons (λ b. zeros (rows 8 (bit_of b))) b bs)
-
--- one byte more
-pub zeros_in_more : (bs : List ℕ) (i : ℕ) → i < length bs → get_or bs i 0 < 256 → zeros_in (take (i + 1) bs) ≡ zeros_in (take i bs) + ones (255 - get_or bs i 0)
-zeros_in_more bs i h l =
-    zeros_in_lem (take (i + 1) bs) ∙ sum_by_more (λ b. zeros (rows 8 (bit_of b))) bs i 0 h
-    ∙ ap₂ ◌+◌ (sym (zeros_in_lem (take i bs))) (zeros_of 8 (get_or bs i 0) l)
+zeros_in_lem (b ∷ bs) = zeros_cons b bs ∙ ap (λ (n : ℕ). zeros_of b + n) (zeros_in_lem bs) ∙ sym (sum_by-cons zeros_of b bs)
 
 -- bytes cut in two
 zeros_in_parts : (k : ℕ) (bs : List ℕ) → zeros_in (take k bs) + zeros_in (drop k bs) ≡ zeros_in bs
 zeros_in_parts k bs =
-    ap₂ ◌+◌ (zeros_in_lem (take k bs)) (zeros_in_lem (drop k bs)) ∙ sum_by-take-drop (λ b. zeros (rows 8 (bit_of b))) bs k ∙ sym (zeros_in_lem bs)
+    ap₂ ◌+◌ (zeros_in_lem (take k bs)) (zeros_in_lem (drop k bs)) ∙ sum_by-take-drop zeros_of bs k ∙ sym (zeros_in_lem bs)
 
 -- the words of bytes, and what is left of the bytes
-pub zeros_in_chunks : (k : ℕ) (bs : List ℕ) → sum_by zeros_in (first_chunks 8 k bs) + zeros_in (drop (k * 8) bs) ≡ zeros_in bs
+zeros_in_chunks : (k : ℕ) (bs : List ℕ) → sum_by zeros_in (first_chunks 8 k bs) + zeros_in (drop (k * 8) bs) ≡ zeros_in bs
 zeros_in_chunks zero bs = omega arith
 zeros_in_chunks (suc k) bs =
     let e : 8 + k * 8 ≡ suc k * 8 = omega arith in
@@ -102,6 +100,31 @@ zeros_in_chunks (suc k) bs =
     let b = zeros_in_chunks k (drop 8 bs) in
     let d = ap zeros_in left in
     omega (arith, zeros_in_parts 8 bs)
+
+-- no more than there are
+zeros_most : (bs : List Bool) → zeros bs ≤ length bs
+zeros_most [] = omega arith
+zeros_most (true ∷ bs) = omega (arith, zeros_most bs)
+zeros_most (false ∷ bs) = omega (arith, zeros_most bs)
+
+-- bytes in which no bit is 0
+abbrev full : List ℕ
+full = 255 ∷ 255 ∷ 255 ∷ 255 ∷ 255 ∷ 255 ∷ 255 ∷ 255 ∷ []
+
+filled : (bs : List ℕ) (n : ℕ) → zeros_in (bs ++ drop n full) ≡ zeros_in bs
+filled bs n =
+    let parts = sum_by-take-drop zeros_of full n in
+    let none : sum_by zeros_of full ≡ 0 = refl in
+    let all = zeros_in_lem (bs ++ drop n full) ∙ sum_by-append zeros_of bs (drop n full) in
+    omega (arith, zeros_in_lem bs)
+
+-- words, and a last one that begins with what is left of the bytes
+pub words_and_last : (bs : List ℕ) (words : List (List ℕ)) (rest last : List ℕ) (n : ℕ) → words ≡ first_chunks 8 (length bs / 8) bs → rest ≡ drop (length bs / 8 * 8) bs → last ≡ rest
+    → (sum_by zeros_in words + zeros_in (last ++ drop n full) ≡ zeros_in bs) × (zeros_in bs ≤ 8 * length bs)
+words_and_last bs words rest last n e f g = (
+  ap₂ ◌+◌ (ap (sum_by zeros_in) e) (filled last n ∙ ap zeros_in (g ∙ f)) ∙ zeros_in_chunks (length bs / 8) bs,
+  omega (arith, zeros_most (rows (8 * length bs) (bit_at bs)), length-rows (8 * length bs) (bit_at bs)),
+)
 
 -- ---- a word
 
@@ -118,7 +141,7 @@ zeros-unle (b ∷ bs) h =
     let e : 256 ^ suc (length bs) - 1 - (b + 256 * u) ≡ (m - 1 - u) * 256 + (255 - b) = omega (arith, ih.0) in
     let s : 255 - b < 256 = omega arith in (
       omega (arith, ih.0),
-      zeros_cons b bs ∙ ap₂ ◌+◌ (zeros_of 8 b l) ih.1 ∙ add_comm (ones (255 - b)) (ones (m - 1 - u)) ∙ sym (ones_cat 8 (m - 1 - u) (255 - b) s) ∙ ap ones (sym e),
+      zeros_cons b bs ∙ ap₂ ◌+◌ (zeros-ones 8 b l) ih.1 ∙ add_comm (ones (255 - b)) (ones (m - 1 - u)) ∙ sym (ones_cat 8 (m - 1 - u) (255 - b) s) ∙ ap ones (sym e),
     )
 
 -- a word of eight bytes
@@ -132,30 +155,31 @@ unle_8 bs e = ap unle (sym (take_all 8 bs (omega arith))) ∙ read_8 bs 0 (omega
 
 -- ---- whole bytes between bits
 
--- whole bytes from byte q on are the bits from a byte's edge on
-zeros_whole : (bs : List ℕ) (p s q k w : ℕ) → q ≡ p + s / 8 → k ≡ w → (0 < w → s % 8 ≡ 0) → q + w ≤ length bs → zeros_in (take k (drop q bs)) ≡ zeros (rows (8 * w) (λ i. bit_at (drop p bs) (s + i)))
-zeros_whole bs p s q k w e f edge h =
-    let len : length (take k (drop q bs)) ≡ w = length-take-le k (drop q bs) (simp length-drop (omega arith)) ∙ f in
+-- whole bytes from byte q on are the bits from that byte's first on
+zeros_whole : (bs : List ℕ) (s q k : ℕ) → (0 < k → s ≡ 8 * q) → q + k ≤ length bs → zeros_in (take k (drop q bs)) ≡ zeros (rows (8 * k) (λ i. bit_at bs (s + i)))
+zeros_whole bs s q k edge h =
+    let len : length (take k (drop q bs)) ≡ k = length-take-le k (drop q bs) (simp length-drop (omega arith)) in
     ap (λ (m : ℕ). zeros (rows (8 * m) (bit_at (take k (drop q bs))))) len
-    ∙ ap zeros (rows_same (8 * w) (bit_at (take k (drop q bs))) (λ i. bit_at (drop p bs) (s + i)) same)
+    ∙ ap zeros (rows_same (8 * k) (bit_at (take k (drop q bs))) (λ i. bit_at bs (s + i)) same)
   where
-    same : (i : ℕ) → i < 8 * w → bit_at (take k (drop q bs)) i ≡ bit_at (drop p bs) (s + i)
+    same : (i : ℕ) → i < 8 * k → bit_at (take k (drop q bs)) i ≡ bit_at bs (s + i)
     same i l =
-        let z : s % 8 ≡ 0 = edge (omega arith) in
-        let at : q + i / 8 ≡ p + (s + i) / 8 = omega arith in
+        let e : s ≡ 8 * q = edge (omega arith) in
+        let at : q + i / 8 ≡ (s + i) / 8 = omega arith in
         let bit : i % 8 ≡ (s + i) % 8 = omega arith in
-        ap₂ bit_of
-        (get_or-take k (drop q bs) (i / 8) 0 (omega arith) ∙ get_or-drop q bs (i / 8) 0 ∙ ap (λ (j : ℕ). get_or bs j 0) at ∙ sym (get_or-drop p bs ((s + i) / 8) 0))
-        bit
+        ap₂ bit_of (get_or-take k (drop q bs) (i / 8) 0 (omega arith) ∙ get_or-drop q bs (i / 8) 0 ∙ ap (λ (j : ℕ). get_or bs j 0) at) bit
 
--- bits up to a byte's edge, whole bytes, and bits after them
-pub zeros_three : (bs : List ℕ) (p s n a w b q k : ℕ) → n ≡ a + 8 * w + b → q ≡ p + (s + a) / 8 → k ≡ w → (0 < w → (s + a) % 8 ≡ 0) → q + w ≤ length bs
-    → zeros (rows a (λ i. bit_at (drop p bs) (s + i))) + zeros_in (take k (drop q bs)) + zeros (rows b (λ i. bit_at (drop p bs) (s + a + 8 * w + i)))
-    ≡ zeros (rows n (λ i. bit_at (drop p bs) (s + i)))
-zeros_three bs p s n a w b q k e at f edge h =
-    let g : ℕ → Bool = λ i. bit_at (drop p bs) (s + i) in
+-- bits up to a byte's edge, whole bytes from q up to e, and bits after them
+pub zeros_three : (bs : List ℕ) (s n a w b q e k : ℕ) → a ≡ min n ((8 - s % 8) % 8) → w ≡ (n - a) / 8 → a + 8 * w + b ≡ n → q ≡ (s + a) / 8 → e ≡ q + w → k ≡ e - q → e ≤ length bs
+    → zeros (rows a (λ i. bit_at bs (s + i))) + zeros_in (take k (drop q bs)) + zeros (rows b (λ i. bit_at bs (8 * e + i)))
+    ≡ zeros (rows n (λ i. bit_at bs (s + i)))
+zeros_three bs s n a w b q e k front whole all start end count h =
+    let g : ℕ → Bool = λ i. bit_at bs (s + i) in
+    let same : k ≡ w = omega arith in
     let one = zeros_add (a + 8 * w) b g in
     let two = zeros_add a (8 * w) g in
-    let mid = zeros_whole bs p (s + a) q k w at f edge h ∙ ap zeros (rows_same (8 * w) (λ i. bit_at (drop p bs) (s + a + i)) (λ i. g (a + i)) (λ i l. ap (bit_at (drop p bs)) (omega arith))) in
-    let end = ap zeros (rows_same b (λ i. bit_at (drop p bs) (s + a + 8 * w + i)) (λ i. g (a + 8 * w + i)) (λ i l. ap (bit_at (drop p bs)) (omega arith))) in
-    rw e (omega arith)
+    let mid = zeros_whole bs (s + a) q k (λ l. omega arith) (omega arith)
+    ∙ ap (λ (k : ℕ). zeros (rows (8 * k) (λ i. bit_at bs (s + a + i)))) same
+    ∙ ap zeros (rows_same (8 * w) (λ i. bit_at bs (s + a + i)) (λ i. g (a + i)) (λ i l. ap (bit_at bs) (omega arith))) in
+    let last = ap zeros (rows_same b (λ i. bit_at bs (8 * e + i)) (λ i. g (a + 8 * w + i)) (λ i l. ap (bit_at bs) (omega arith))) in
+    rw (← all) (omega arith)

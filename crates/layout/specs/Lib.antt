@@ -1,5 +1,6 @@
 pub mod Lists
 pub mod Numbers
+pub mod Spelling
 pub mod Bits
 pub mod Faults
 pub mod Kinds

@@ -1,5 +1,5 @@
 -- The table of nodes: ten numbers of eight bytes each, node after node.
-use Rattle.std.specs.Prelude.{ℕ, ◌+◌, ◌-◌, ◌*◌, ◌/◌, cond, List, length, Some, None, Option, ◌==◌, nat_lt, slice_index_or}
+use Rattle.std.specs.Prelude.{ℕ, ◌+◌, ◌-◌, ◌*◌, ◌/◌, cond, List, [], ◌∷◌, length, Some, None, Option, ◌==◌, nat_lt, slice_index_or}
 use Rattle.layout.specs.declared.node.Node.{Node}
 use Rattle.layout.specs.declared.number.Width.TheVariants.{Eight}
 use Rattle.layout.specs.Lists.{rows, count}
@@ -20,6 +20,10 @@ node_in nb p =
       extent = unsigned_at nb (p + 64) Eight;
       span = unsigned_at nb (p + 72) Eight;
     }
+
+-- its ten numbers, in their order in the table
+abbrev pub numbers_of : Node → List ℕ
+numbers_of n = n.kind ∷ n.mark ∷ n.size ∷ n.rows ∷ n.from ∷ n.bitmap ∷ n.slots ∷ n.«data» ∷ n.extent ∷ n.span ∷ []
 
 unfoldable pub nodes_of : List ℕ → List Node
 nodes_of nb = rows (length nb / 80) (λ i. node_in nb (i * 80))

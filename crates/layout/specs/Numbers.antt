@@ -55,6 +55,3 @@ SignedFits w (negsuc n) = 2 * suc n ≤ 256 ^ w
 
 abbrev pub unsigned_at : List ℕ → ℕ → Width → ℕ
 unsigned_at bs p w = unle (cut p (wide w) bs)
-
-abbrev pub signed_at : List ℕ → ℕ → Width → ℤ
-signed_at bs p w = signed (cut p (wide w) bs)

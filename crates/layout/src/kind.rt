@@ -1,58 +1,58 @@
-ghost use Rattle.std.specs.Prelude.{◌≡◌, ℕ, ◌+◌, ◌*◌, ◌^◌, ◌<◌, ◌≤◌, true};
+ghost use Rattle.std.specs.Prelude.{◌≡◌, ℕ, ◌≤◌, true};
+ghost use Rattle.std.specs.Option.{ok_or};
 ghost use Rattle.layout.specs.Kinds.{kind_number, kind_of, size_fits, offset_width, children_fit, slot_bytes, has_data, has_bitmap};
+ghost use Rattle.layout.specs.declared.fault.Refusal.TheVariants.{KindOrSize};
 
 use crate::bit::bytes_for;
+use crate::fault::Refusal;
 use crate::number::Width;
 
 /// What a node holds: the nine kinds of the table.
-#[derive(Clone, Copy)]
+#[derive(Clone, Copy, Debug, PartialEq, Eq, Hash)]
 pub enum Kind {
-    Null,
-    Boolean,
-    Fixed,
-    Bytes32,
-    Bytes64,
-    List32,
-    List64,
-    Struct,
-    Dictionary,
+    Null = 0,
+    Boolean = 1,
+    Fixed = 2,
+    Bytes32 = 3,
+    Bytes64 = 4,
+    List32 = 5,
+    List64 = 6,
+    Struct = 7,
+    Dictionary = 8,
+}
+
+/// The kind that a node's number names; no kind has a number above 8.
+impl TryFrom<u64> for Kind {
+    type Error = Refusal;
+
+    ghost try_from_gives = { λ number kind. kind ≡ ok_or (kind_of number) KindOrSize };
+
+    fn try_from(number: u64) -> Result<Kind, Refusal> {
+        match number {
+            0 => Ok(Kind::Null),
+            1 => Ok(Kind::Boolean),
+            2 => Ok(Kind::Fixed),
+            3 => Ok(Kind::Bytes32),
+            4 => Ok(Kind::Bytes64),
+            5 => Ok(Kind::List32),
+            6 => Ok(Kind::List64),
+            7 => Ok(Kind::Struct),
+            8 => Ok(Kind::Dictionary),
+            _ => Err(Refusal::KindOrSize),
+        }
+    }
+}
+
+/// The number that names it.
+impl From<Kind> for u64 {
+    ghost from_gives = { λ kind number. number ≡ kind_number kind };
+
+    fn from(kind: Kind) -> u64 {
+        kind as u64
+    }
 }
 
 impl Kind {
-    /// The kind that a node's number names; no kind has a number above 8.
-    pub fn of(number: u64) -> Option<Kind>
-        ensures { result ≡ kind_of number }
-    {
-        match number {
-            0 => Some(Kind::Null),
-            1 => Some(Kind::Boolean),
-            2 => Some(Kind::Fixed),
-            3 => Some(Kind::Bytes32),
-            4 => Some(Kind::Bytes64),
-            5 => Some(Kind::List32),
-            6 => Some(Kind::List64),
-            7 => Some(Kind::Struct),
-            8 => Some(Kind::Dictionary),
-            _ => None,
-        }
-    }
-
-    pub fn number(self) -> u64
-        ensures { result ≡ kind_number self }
-    {
-        match self {
-            Kind::Null => 0,
-            Kind::Boolean => 1,
-            Kind::Fixed => 2,
-            Kind::Bytes32 => 3,
-            Kind::Bytes64 => 4,
-            Kind::List32 => 5,
-            Kind::List64 => 6,
-            Kind::Struct => 7,
-            Kind::Dictionary => 8,
-        }
-    }
-
     /// How wide its offsets are, if it has any.
     pub fn offset_width(self) -> Option<Width>
         ensures { result ≡ offset_width self }
@@ -82,8 +82,8 @@ impl Kind {
         ensures { result ≡ size_fits self size }
     {
         match self {
-            Kind::Fixed => size >= 1 && size <= 256,
-            Kind::Dictionary => Width::of(size).is_some(),
+            Kind::Fixed => (1..=256).contains(&size),
+            Kind::Dictionary => Width::try_from(size).is_ok(),
             _ => true,
         }
     }
@@ -113,6 +113,6 @@ impl Kind {
     pub fn has_bitmap(self) -> bool
         ensures { result ≡ has_bitmap self }
     {
-        !matches!(self, Kind::Null)
+        self != Kind::Null
     }
 }

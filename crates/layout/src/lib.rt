@@ -9,8 +9,8 @@ mod kind;
 mod node;
 mod number;
 
-pub use bit::{bytes_for, count_zeros, read_bit};
+pub use bit::{WholeBytes, bytes_for, count_zeros, read_bit};
 pub use fault::{Fault, Refusal};
 pub use kind::Kind;
-pub use node::{NODE_BYTES, Node};
-pub use number::{Width, read_signed, read_unsigned, write_signed, write_unsigned};
+pub use node::{MOST_ROWS, NODE_BYTES, NODE_NUMBERS, Node, lies_within};
+pub use number::{Number, Width, read, write};

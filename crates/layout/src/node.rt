@@ -1,24 +1,95 @@
-ghost use Rattle.std.specs.Prelude.{◌≡◌, ℕ, ◌+◌, ◌-◌, ◌*◌, ◌/◌, ◌%◌, ◌^◌, ◌<◌, ◌≤◌, length};
-ghost use Rattle.layout.specs.Nodes.{nodes_of, node_at, node_in, bitmap_of};
+ghost use Rattle.std.specs.Prelude.{◌≡◌, ℕ, ◌+◌, ◌/◌, ◌<◌, length, nat_le};
+ghost use Rattle.layout.specs.Nodes.{nodes_of, node_at, node_in, numbers_of, bitmap_of};
 
-use crate::number::{Width, read_unsigned, write_unsigned};
+use crate::number::{Width, read, write};
+
+/// How many numbers make a node.
+pub const NODE_NUMBERS: usize = 10;
 
 /// How many bytes the host hands for a node.
-pub const NODE_BYTES: usize = 80;
+pub const NODE_BYTES: usize = 8 * NODE_NUMBERS;
+
+/// What from + rows of a node may not pass, nor the rows of a batch.
+pub const MOST_ROWS: u64 = 2_147_483_647;
+
+/// Whether so many from a place on lie among the first `len`: bytes of a run, or rows.
+pub fn lies_within(place: u64, need: u64, len: u64) -> bool
+    ensures { result ≡ nat_le (place + need) len }
+{
+    place <= len && need <= len - place
+}
 
 /// A node of a recording: ten numbers, each of eight bytes where the host hands them.
-#[derive(Clone, Copy)]
+#[derive(Clone, Copy, Debug, PartialEq, Eq, Hash)]
 pub struct Node {
     pub kind: u64,
+    /// The host's own; it only has to be equal where windows are.
     pub mark: u64,
     pub size: u64,
     pub rows: u64,
+    /// How many slots stand before that of row 0.
     pub from: u64,
+    /// The place of the bitmap plus 1, or 0 where there is none.
     pub bitmap: u64,
+    /// The place of the slots.
     pub slots: u64,
+    /// The place of the data, and how long they are.
     pub data: u64,
     pub extent: u64,
+    /// How many nodes its tree has.
     pub span: u64,
+}
+
+/// The node that its ten numbers make, in their order in the table.
+impl From<[u64; NODE_NUMBERS]> for Node {
+    ghost from_gives = { λ numbers node. numbers_of node ≡ numbers };
+
+    fn from(numbers: [u64; NODE_NUMBERS]) -> Node {
+        let [
+            kind,
+            mark,
+            size,
+            rows,
+            from,
+            bitmap,
+            slots,
+            data,
+            extent,
+            span,
+        ] = numbers;
+        Node {
+            kind,
+            mark,
+            size,
+            rows,
+            from,
+            bitmap,
+            slots,
+            data,
+            extent,
+            span,
+        }
+    }
+}
+
+/// Its ten numbers, in their order in the table.
+impl From<Node> for [u64; NODE_NUMBERS] {
+    ghost from_gives = { λ node numbers. numbers ≡ numbers_of node };
+
+    fn from(node: Node) -> [u64; NODE_NUMBERS] {
+        [
+            node.kind,
+            node.mark,
+            node.size,
+            node.rows,
+            node.from,
+            node.bitmap,
+            node.slots,
+            node.data,
+            node.extent,
+            node.span,
+        ]
+    }
 }
 
 impl Node {
@@ -27,30 +98,20 @@ impl Node {
         requires { i < length table.now / 80 }
         ensures { result ≡ node_at (nodes_of table.now) i }
     {
-        let place = i * NODE_BYTES;
-        Node {
-            kind: read_unsigned(table, place, Width::Eight),
-            mark: read_unsigned(table, place + 8, Width::Eight),
-            size: read_unsigned(table, place + 16, Width::Eight),
-            rows: read_unsigned(table, place + 24, Width::Eight),
-            from: read_unsigned(table, place + 32, Width::Eight),
-            bitmap: read_unsigned(table, place + 40, Width::Eight),
-            slots: read_unsigned(table, place + 48, Width::Eight),
-            data: read_unsigned(table, place + 56, Width::Eight),
-            extent: read_unsigned(table, place + 64, Width::Eight),
-            span: read_unsigned(table, place + 72, Width::Eight),
+        let bytes = &table[i * NODE_BYTES..];
+        // `array::from_fn` would do, but what its closure captures is not known to stay.
+        let mut numbers = [0; NODE_NUMBERS];
+        for (k, number) in numbers.iter_mut().enumerate() {
+            *number = read(&bytes[8 * k..], Width::Eight);
         }
+        Node::from(numbers)
     }
 
     /// Where its bitmap stands; a node without one has every row valid.
     pub fn bitmap_place(&self) -> Option<u64>
         ensures { result ≡ bitmap_of self.now }
     {
-        if self.bitmap == 0 {
-            None
-        } else {
-            Some(self.bitmap - 1)
-        }
+        self.bitmap.checked_sub(1)
     }
 
     /// The eighty bytes that spell it.
@@ -58,21 +119,10 @@ impl Node {
         ensures len { length result ≡ 80 }
         ensures back { node_in result 0 ≡ self.now }
     {
-        let numbers = [
-            self.kind,
-            self.mark,
-            self.size,
-            self.rows,
-            self.from,
-            self.bitmap,
-            self.slots,
-            self.data,
-            self.extent,
-            self.span,
-        ];
+        // By places, since what `as_chunks_mut` leaves in the array is in no contract.
         let mut bytes = [0; NODE_BYTES];
-        for k in 0..10usize {
-            write_unsigned(&mut bytes, 8 * k, Width::Eight, numbers[k]);
+        for (k, number) in <[u64; NODE_NUMBERS]>::from(*self).iter().enumerate() {
+            write(&mut bytes[8 * k..], Width::Eight, *number);
         }
         bytes
     }

@@ -1,39 +1,42 @@
-ghost use Rattle.std.specs.Prelude.{◌≡◌, ℕ, ◌+◌, ◌-◌, ◌*◌, ◌/◌, ◌%◌, ◌^◌, ◌<◌, ◌≤◌, length};
-ghost use Rattle.layout.specs.Lists.{put};
-ghost use Rattle.layout.specs.Numbers.{wide, width_of, le, unsigned_at, signed_at, SignedFits, twos};
+ghost use Rattle.std.specs.Prelude.{◌≡◌, ℕ, ◌+◌, ◌*◌, ◌^◌, ◌<◌, ◌≤◌, List, ◌++◌, length, take, drop};
+ghost use Rattle.std.specs.Option.{ok_or};
+ghost use Rattle.layout.specs.declared.fault.Refusal.TheVariants.{KindOrSize};
+ghost use Rattle.layout.specs.Numbers.{wide, width_of, le, unle, signed, SignedFits, twos};
+ghost use Rattle.layout.specs.Spelling.{SpellingLaws, unsigned_laws, signed_laws};
+
+use crate::fault::Refusal;
 
 /// How many bytes a number has.
-#[derive(Clone, Copy)]
+#[derive(Clone, Copy, Debug, PartialEq, Eq, Hash)]
 pub enum Width {
-    One,
-    Two,
-    Four,
-    Eight,
+    One = 1,
+    Two = 2,
+    Four = 4,
+    Eight = 8,
+}
+
+/// The width of so many bytes. Only a key's size asks for one, so that size is what is refused.
+impl TryFrom<u64> for Width {
+    type Error = Refusal;
+
+    ghost try_from_gives = { λ bytes width. width ≡ ok_or (width_of bytes) KindOrSize };
+
+    fn try_from(bytes: u64) -> Result<Width, Refusal> {
+        match bytes {
+            1 => Ok(Width::One),
+            2 => Ok(Width::Two),
+            4 => Ok(Width::Four),
+            8 => Ok(Width::Eight),
+            _ => Err(Refusal::KindOrSize),
+        }
+    }
 }
 
 impl Width {
-    /// The width of so many bytes, if there is one.
-    pub fn of(bytes: u64) -> Option<Width>
-        ensures { result ≡ width_of bytes }
-    {
-        match bytes {
-            1 => Some(Width::One),
-            2 => Some(Width::Two),
-            4 => Some(Width::Four),
-            8 => Some(Width::Eight),
-            _ => None,
-        }
-    }
-
     pub fn bytes(self) -> usize
         ensures { result ≡ wide self }
     {
-        match self {
-            Width::One => 1,
-            Width::Two => 2,
-            Width::Four => 4,
-            Width::Eight => 8,
-        }
+        self as usize
     }
 
     /// The least unsigned number that is below 0 as a signed one of this width.
@@ -49,94 +52,109 @@ impl Width {
     }
 }
 
-fn read_two(bytes: &[u8], place: usize) -> u16
-    requires { place + 2 ≤ length bytes.now }
-    ensures { result ≡ unsigned_at bytes.now place Width.Two }
-{
-    u16::from_le_bytes([bytes[place], bytes[place + 1]])
+/// A number that bytes spell, the lowest first: an unsigned one as it is, a signed one in two's complement.
+pub trait Number: Copy {
+    // The number that bytes spell.
+    ghost spelled: { List ℕ → Self };
+
+    // The w bytes that spell a number which w bytes can spell.
+    ghost spelling: { ℕ → Self → List ℕ };
+
+    ghost Fits: { ℕ → Self → Type 0 };
+
+    // What each `impl` must prove.
+    ghost laws: { SpellingLaws spelled spelling Fits };
+
+    /// The number whose bytes, so many, spell `low` as an unsigned one.
+    fn from_low(low: u64, width: Width) -> Self
+        requires { low < 256 ^ wide width }
+        ensures { (bytes : List ℕ) → length bytes ≡ wide width → low ≡ unle bytes → result ≡ spelled bytes };
+
+    /// An unsigned number with the same low bytes.
+    fn low(self) -> u64
+        ensures { (w : Width) → Fits (wide w) self → le (wide w) result ≡ spelling (wide w) self };
 }
 
-fn read_four(bytes: &[u8], place: usize) -> u32
-    requires { place + 4 ≤ length bytes.now }
-    ensures { result ≡ unsigned_at bytes.now place Width.Four }
-{
-    u32::from_le_bytes([
-        bytes[place],
-        bytes[place + 1],
-        bytes[place + 2],
-        bytes[place + 3],
-    ])
-}
+impl Number for u64 {
+    ghost spelled = { unle };
 
-fn read_eight(bytes: &[u8], place: usize) -> u64
-    requires { place + 8 ≤ length bytes.now }
-    ensures { result ≡ unsigned_at bytes.now place Width.Eight }
-{
-    u64::from_le_bytes([
-        bytes[place],
-        bytes[place + 1],
-        bytes[place + 2],
-        bytes[place + 3],
-        bytes[place + 4],
-        bytes[place + 5],
-        bytes[place + 6],
-        bytes[place + 7],
-    ])
-}
+    ghost spelling = { le };
 
-/// The unsigned number at a place.
-pub fn read_unsigned(bytes: &[u8], place: usize, width: Width) -> u64
-    requires { place + wide width ≤ length bytes.now }
-    ensures { result ≡ unsigned_at bytes.now place width }
-{
-    match width {
-        Width::One => u64::from(bytes[place]),
-        Width::Two => u64::from(read_two(bytes, place)),
-        Width::Four => u64::from(read_four(bytes, place)),
-        Width::Eight => read_eight(bytes, place),
+    ghost Fits = { λ w n. n < 256 ^ w };
+
+    ghost laws = { unsigned_laws };
+
+    fn from_low(low: u64, _width: Width) -> u64 {
+        low
+    }
+
+    fn low(self) -> u64 {
+        self
     }
 }
 
-/// The signed number at a place, in two's complement.
-pub fn read_signed(bytes: &[u8], place: usize, width: Width) -> i64
-    requires { place + wide width ≤ length bytes.now }
-    ensures { result ≡ signed_at bytes.now place width }
-{
-    match width {
-        Width::One => i64::from(bytes[place].cast_signed()),
-        Width::Two => i64::from(read_two(bytes, place).cast_signed()),
-        Width::Four => i64::from(read_four(bytes, place).cast_signed()),
-        Width::Eight => read_eight(bytes, place).cast_signed(),
+impl Number for i64 {
+    ghost spelled = { signed };
+
+    ghost spelling = { λ w z. le w (twos w z) };
+
+    ghost Fits = { SignedFits };
+
+    ghost laws = { signed_laws };
+
+    fn from_low(low: u64, width: Width) -> i64 {
+        let half = width.half();
+        if low < half {
+            low.cast_signed()
+        } else {
+            // It stands for low - 256 ^ width, which is below 0.
+            low.wrapping_sub(half).wrapping_sub(half).cast_signed()
+        }
+    }
+
+    fn low(self) -> u64 {
+        self.cast_unsigned()
     }
 }
 
-// Writes the lowest bytes of a number.
-fn write_low(out: &mut [u8], place: usize, width: Width, value: u64)
-    requires { place + wide width ≤ length out.old }
-    ensures { out.new ≡ put place (le (wide width) value) out.old }
+// The first bytes, as many as the type of the answer has.
+fn front<const N: usize>(bytes: &[u8]) -> [u8; N]
+    requires { N ≤ length bytes.now }
+    ensures { result ≡ take N bytes.now }
+{
+    *bytes.first_chunk().unwrap()
+}
+
+// The unsigned number at the front.
+fn read_low(bytes: &[u8], width: Width) -> u64
+    requires { wide width ≤ length bytes.now }
+    ensures value { result ≡ unle (take (wide width) bytes.now) }
+    ensures fits { result < 256 ^ wide width }
+{
+    match width {
+        Width::One => u64::from(bytes[0]),
+        Width::Two => u64::from(u16::from_le_bytes(front(bytes))),
+        Width::Four => u64::from(u32::from_le_bytes(front(bytes))),
+        Width::Eight => u64::from_le_bytes(front(bytes)),
+    }
+}
+
+/// The number at the front of the bytes.
+pub fn read<N: Number>(bytes: &[u8], width: Width) -> N
+    requires { wide width ≤ length bytes.now }
+    ensures { result ≡ N.spelled (take (wide width) bytes.now) }
+{
+    N::from_low(read_low(bytes, width), width)
+}
+
+/// Writes a number at the front of the bytes; no other byte changes.
+pub fn write<N: Number>(out: &mut [u8], width: Width, value: N)
+    requires within { wide width ≤ length out.old }
+    requires fits { N.Fits (wide width) value }
+    ensures after { out.new ≡ N.spelling (wide width) value ++ drop (wide width) out.old }
+    ensures back { N.spelled (take (wide width) out.new) ≡ value }
 {
     let n = width.bytes();
-    let end = place + n;
-    let spelled = value.to_le_bytes();
-    out[place..end].copy_from_slice(&spelled[0..n]);
-}
-
-/// Writes an unsigned number at a place; no other byte changes.
-pub fn write_unsigned(out: &mut [u8], place: usize, width: Width, value: u64)
-    requires within { place + wide width ≤ length out.old }
-    requires fits { value < 256 ^ wide width }
-    ensures after { out.new ≡ put place (le (wide width) value) out.old }
-    ensures back { unsigned_at out.new place width ≡ value }
-{
-    write_low(out, place, width, value);
-}
-
-/// Writes a signed number at a place, in two's complement; no other byte changes.
-pub fn write_signed(out: &mut [u8], place: usize, width: Width, value: i64)
-    requires within { place + wide width ≤ length out.old }
-    requires fits { SignedFits (wide width) value }
-    ensures after { out.new ≡ put place (le (wide width) (twos (wide width) value)) out.old }
-    ensures back { signed_at out.new place width ≡ value }
-{
-    write_low(out, place, width, value.cast_unsigned());
+    let spelled = value.low().to_le_bytes();
+    out[..n].copy_from_slice(&spelled[..n]);
 }

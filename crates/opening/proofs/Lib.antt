@@ -1,2 +1,4 @@
 pub mod Flagged
 pub mod Order
+pub mod Subjects
+pub mod Walking

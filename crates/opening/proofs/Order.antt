@@ -1,93 +1,88 @@
 -- The checks of a node in the order of their numbers.
-use Rattle.std.proofs.Common.{◌≡◌, ℕ, ◌<◌, ◌≤◌, true, false, ◌&&◌, leb, List, Some, None, Option, sym, ap, ◌∙◌}
-use Rattle.std.proofs.lemmas.Bool.{and_left, and_right, and_from, le-leb, lt-leb}
+use Rattle.std.proofs.Common.{◌≡◌, ℕ, ◌+◌, ◌<◌, true, false, List, Some, None, Option, Ok, Err, Result, MatchResult, IsErrAnd, sym, ap, ◌∙◌, subst}
 use Rattle.layout.specs.declared.fault.Refusal.{Refusal}
 use Rattle.layout.specs.declared.fault.Refusal.TheVariants.{KindOrSize, Nesting, Place, Offset, Key}
 use Rattle.layout.specs.declared.kind.Kind.{Kind}
 use Rattle.layout.specs.declared.node.Node.{Node}
 use Rattle.layout.specs.Faults.{refusal_number}
 use Rattle.layout.specs.Kinds.{kind_of}
-use Rattle.layout.specs.Nodes.{node_at, depth_of}
-use Rattle.layout.specs.Tests.{passes, tabled_as, tabled_by, shaped_as, placed_as, offsets_as, keys_as, holds}
+use Rattle.layout.specs.Nodes.{node_at}
+use Rattle.layout.specs.Tests.{tabled_as, tabled_by, holds}
 use Rattle.layout.proofs.Opening.{all_hold, below_4, below_next}
-use Rattle.layout.proofs.Table.{kind_is}
-use Rattle.layout.proofs.Tests.{tells}
-use Rattle.opening.specs.Checks.{Breaks, AllHold, Ready}
+use Rattle.layout.specs.Nodes.{nodes_of}
+use Rattle.opening.specs.declared.subject.Subject.{Subject}
+use Rattle.opening.specs.Checks.{Breaks, NodeVerdict}
+use Rattle.opening.specs.Subjects.{table_of, kept}
+use Rattle.opening.proofs.Subjects.{table_kept}
 
--- a number of no kind
-pub no_kind : (ns : List Node) (bs : List ℕ) (i : ℕ) (n : Node) → n ≡ node_at ns i → None ≡ kind_of n.kind → Breaks ns bs i KindOrSize
-unfolding holds
-no_kind ns bs i n same e =
-    let none : kind_of (node_at ns i).kind ≡ None = sym (e ∙ ap (λ (n : Node). kind_of n.kind) same) in
-    record { here = ap (λ (o : Option Kind). tabled_by o (node_at ns i)) none; smaller = below_4 ns bs i }
+-- what `?` hands on
+pub handed_on : {T : Type 0} (P : T → Type 0) (Q : Refusal → Type 0) (out : Result T Refusal) (e : Refusal) → IsErrAnd out (λ q. q ≡ e) → Q e → MatchResult out P Q
+handed_on P Q (Ok x) e told h = absurd told
+handed_on P Q (Err q) e told h = subst Q (sym told) h
 
--- the node that was read, and its kind
-module _ (ns : List Node) (bs : List ℕ) (i : ℕ) (n : Node) (k : Kind) (same : n ≡ node_at ns i) (is : Some k ≡ kind_of n.kind) where
-  some : kind_of (node_at ns i).kind ≡ Some k
-  some = sym (is ∙ ap (λ (n : Node). kind_of n.kind) same)
-
-  table : holds KindOrSize ns bs i ≡ tabled_as k n
+module _ (ns : List Node) (bs : List ℕ) (i : ℕ) where
+  -- a number of no kind, and one whose table does not allow the node
+  pub no_kind : (n : Node) → n ≡ node_at ns i → kind_of n.kind ≡ None → holds KindOrSize ns bs i ≡ false
   unfolding holds
-  table = ap (λ (o : Option Kind). tabled_by o (node_at ns i)) some ∙ ap (tabled_as k) (sym same)
+  no_kind n same e = ap (λ (o : Option Kind). tabled_by o (node_at ns i)) (ap (λ (n : Node). kind_of n.kind) (sym same) ∙ e)
 
-  nesting : holds Nesting ns bs i ≡ (shaped_as (Some k) ns i && leb (depth_of ns i) 64)
+  pub not_tabled : (n : Node) (k : Kind) → n ≡ node_at ns i → kind_of n.kind ≡ Some k → tabled_as k n ≡ false → holds KindOrSize ns bs i ≡ false
   unfolding holds
-  nesting = ap (λ (o : Option Kind). shaped_as o ns i && leb (depth_of ns i) 64) some
+  not_tabled n k same e f =
+      ap (λ (o : Option Kind). tabled_by o (node_at ns i)) (ap (λ (n : Node). kind_of n.kind) (sym same) ∙ e) ∙ ap (tabled_as k) (sym same) ∙ f
 
-  places : holds Place ns bs i ≡ placed_as k n bs
-  unfolding holds
-  places = ap (λ (o : Option Kind). passes o (λ k. placed_as k (node_at ns i) bs)) some ∙ ap (λ (n : Node). placed_as k n bs) (sym same)
+  pub breaks_table : holds KindOrSize ns bs i ≡ false → Breaks ns bs i KindOrSize
+  breaks_table f = record { here = f; smaller = below_4 ns bs i }
 
-  offsets : holds Offset ns bs i ≡ offsets_as k ns bs i
-  unfolding holds
-  offsets = ap (λ (o : Option Kind). passes o (λ k. offsets_as k ns bs i)) some
+  pub verdict_err : (out : Result (Unit {0}) Refusal) (e q : Refusal) → IsErrAnd out (λ p. p ≡ e) → e ≡ q → Breaks ns bs i q → NodeVerdict ns bs i out
+  verdict_err (Ok x) e q told same b = absurd told
+  verdict_err (Err p) e q told same b = subst (Breaks ns bs i) (sym (told ∙ same)) b
 
-  keys : holds Key ns bs i ≡ keys_as k ns bs i
-  unfolding holds
-  keys = ap (λ (o : Option Kind). passes o (λ k. keys_as k ns bs i)) some
+-- ---- the first rule that a node with a kind breaks
 
-  pub breaks_table : false ≡ tabled_as k n → Breaks ns bs i KindOrSize
-  breaks_table f = record { here = table ∙ sym f; smaller = below_4 ns bs i }
+module _ (s : Subject) where
+  abbrev below : ℕ → Type 0
+  below n = (r : Refusal) → refusal_number r < n → kept r s ≡ true
 
-  module _ (t4 : true ≡ tabled_as k n) where
-    below_5 : (r : Refusal) → refusal_number r < 5 → holds r ns bs i ≡ true
-    below_5 = below_next ns bs i KindOrSize (below_4 ns bs i) (table ∙ sym t4)
+  abbrev first : Refusal → Type 0
+  first q = Breaks (table_of s) s.bytes.now s.index q
 
-    pub breaks_shape : shaped_as (Some k) ns i ≡ false → Breaks ns bs i Nesting
-    breaks_shape f = record { here = nesting ∙ and_left _ _ f; smaller = below_5 }
+  next : (q : Refusal) → below (refusal_number q) → kept q s ≡ true → below (refusal_number q + 1)
+  next q = below_next (table_of s) s.bytes.now s.index q
 
-    pub breaks_depth : 64 < depth_of ns i → Breaks ns bs i Nesting
-    breaks_depth d = record { here = nesting ∙ and_right (shaped_as (Some k) ns i) (leb (depth_of ns i) 64) (lt-leb _ _ d); smaller = below_5 }
+  below_5 : below 5
+  below_5 = next KindOrSize (below_4 (table_of s) s.bytes.now s.index) (table_kept s)
 
-    module _ (t5 : shaped_as (Some k) ns i ≡ true) (deep : depth_of ns i ≤ 64) where
-      nested : holds Nesting ns bs i ≡ true
-      nested = nesting ∙ and_from _ _ t5 (le-leb _ _ deep)
+  pub breaks_nesting : kept Nesting s ≡ false → first Nesting
+  breaks_nesting f = record { here = f; smaller = below_5 }
 
-      below_6 : (r : Refusal) → refusal_number r < 6 → holds r ns bs i ≡ true
-      below_6 = below_next ns bs i Nesting below_5 nested
+  module _ (nesting : kept Nesting s ≡ true) where
+    below_6 : below 6
+    below_6 = next Nesting below_5 nesting
 
-      pub breaks_places : false ≡ placed_as k n bs → Breaks ns bs i Place
-      breaks_places f = record { here = places ∙ sym f; smaller = below_6 }
+    pub breaks_place : kept Place s ≡ false → first Place
+    breaks_place f = record { here = f; smaller = below_6 }
 
-      module _ (t6 : true ≡ placed_as k n bs) where
-        below_7 : (r : Refusal) → refusal_number r < 7 → holds r ns bs i ≡ true
-        below_7 = below_next ns bs i Place below_6 (places ∙ sym t6)
+    module _ (place : kept Place s ≡ true) where
+      below_7 : below 7
+      below_7 = next Place below_6 place
 
-        pub ready : Ready k ns bs i
-        ready =
-            record {
-              is = kind_is (node_at ns i).kind k some;
-              tabled = tells ns bs i KindOrSize (table ∙ sym t4);
-              nested = tells ns bs i Nesting nested;
-              placed = tells ns bs i Place (places ∙ sym t6);
-            }
+      pub breaks_offset : kept Offset s ≡ false → first Offset
+      breaks_offset f = record { here = f; smaller = below_7 }
 
-        pub breaks_offsets : false ≡ offsets_as k ns bs i → Breaks ns bs i Offset
-        breaks_offsets f = record { here = offsets ∙ sym f; smaller = below_7 }
+      -- the last rule decides
+      pub verdict_last : kept Offset s ≡ true → (out : Result (Unit {0}) Refusal) → MatchResult out (λ _. kept Key s ≡ true) (λ q. (q ≡ Key) × (kept Key s ≡ false))
+          → NodeVerdict (table_of s) s.bytes.now s.index out
+      verdict_last offset (Ok x) key = all_hold (table_of s) s.bytes.now s.index (table_kept s) nesting place offset key
+      verdict_last offset (Err q) f = subst first (sym f.0) (record { here = f.1; smaller = next Offset below_7 offset })
 
-        module _ (t7 : true ≡ offsets_as k ns bs i) where
-          pub breaks_keys : false ≡ keys_as k ns bs i → Breaks ns bs i Key
-          breaks_keys f = record { here = keys ∙ sym f; smaller = below_next ns bs i Offset below_7 (offsets ∙ sym t7) }
+  -- it is node i of the bytes that were handed
+  module _ (nb bs : List ℕ) (i : ℕ) (same : (s.nodes.now ≡ nb) × (s.bytes.now ≡ bs) × (s.index ≡ i)) where
+    pub verdict_of : (out : Result (Unit {0}) Refusal) → NodeVerdict (table_of s) s.bytes.now s.index out → NodeVerdict (nodes_of nb) bs i out
+    verdict_of out v =
+        subst (λ (n : List ℕ). NodeVerdict (nodes_of n) bs i out) same.0
+        (subst (λ (b : List ℕ). NodeVerdict (nodes_of s.nodes.now) b i out) same.1
+        (subst (λ (j : ℕ). NodeVerdict (nodes_of s.nodes.now) s.bytes.now j out) same.2 v))
 
-          pub none_broken : true ≡ keys_as k ns bs i → AllHold ns bs i
-          none_broken t8 = all_hold ns bs i (table ∙ sym t4) nested (places ∙ sym t6) (offsets ∙ sym t7) (keys ∙ sym t8)
+    pub refused : (out : Result (Unit {0}) Refusal) (e q : Refusal) → IsErrAnd out (λ p. p ≡ e) → e ≡ q → first q → NodeVerdict (nodes_of nb) bs i out
+    refused out e q told is b = verdict_of out (verdict_err (table_of s) s.bytes.now s.index out e q told is b)

@@ -2,10 +2,7 @@
 use Rattle.std.specs.Prelude.{◌≡◌, ℕ, ◌<◌, true, false, List, Ok, Err, Result}
 use Rattle.layout.specs.declared.fault.Refusal.{Refusal}
 use Rattle.layout.specs.declared.node.Node.{Node}
-use Rattle.layout.specs.declared.kind.Kind.{Kind}
 use Rattle.layout.specs.Faults.{refusal_number}
-use Rattle.layout.specs.Nodes.{node_at}
-use Rattle.layout.specs.Rules.{Is, Tabled, Nested, Placed}
 use Rattle.layout.specs.Tests.{holds}
 
 -- every rule holds at node i
@@ -20,10 +17,3 @@ pub record Breaks (ns : List Node) (bs : List ℕ) (i : ℕ) (q : Refusal) : Typ
 abbrev pub NodeVerdict : List Node → List ℕ → ℕ → Result (Unit {0}) Refusal → Type 0
 NodeVerdict ns bs i (Ok _) = AllHold ns bs i
 NodeVerdict ns bs i (Err q) = Breaks ns bs i q
-
--- the rules that are checked before what the slots of a node hold
-pub record Ready (k : Kind) (ns : List Node) (bs : List ℕ) (i : ℕ) : Type 0 where
-  pub is : Is (node_at ns i) k
-  pub tabled : Tabled (node_at ns i)
-  pub nested : Nested ns i
-  pub placed : Placed bs (node_at ns i)

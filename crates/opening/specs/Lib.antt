@@ -1,2 +1,5 @@
 pub mod Checks
+pub mod Ends
 pub mod Scans
+pub mod Subjects
+pub mod Walks

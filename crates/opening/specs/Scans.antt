@@ -1,9 +1,19 @@
--- What a scan of keys under a bitmap tests.
-use Rattle.std.specs.Prelude.{ℕ, ◌+◌, ◌*◌, Bool, not, ◌||◌, List, drop, nat_lt}
-use Rattle.layout.specs.declared.number.Width.{Width}
+-- What stands in slots and bitmaps, and what a scan of keys under a bitmap tests.
+use Rattle.std.specs.Prelude.{ℕ, ◌+◌, ◌*◌, Bool, not, ◌||◌, drop, nat_lt}
 use Rattle.layout.specs.Bits.{bit_at}
 use Rattle.layout.specs.Numbers.{wide, unsigned_at}
+use Rattle.opening.specs.declared.slots.Slots.{Slots}
+use Rattle.opening.specs.declared.slots.Marks.{Marks}
+use Rattle.opening.specs.declared.slots.Keys.{Keys}
+
+-- the number in slot k
+abbrev pub slot_number : Slots → ℕ → ℕ
+slot_number s k = unsigned_at s.bytes.now (s.place + k * wide s.width) s.width
+
+-- bit k is 1
+abbrev pub is_marked : Marks → ℕ → Bool
+is_marked m k = bit_at (drop m.place m.bytes.now) k
 
 -- the number in slot i is below the bound, or its bit is 0
-abbrev pub marked_below : List ℕ → ℕ → Width → ℕ → ℕ → ℕ → Bool
-marked_below bs bitmap width place bound i = not (bit_at (drop bitmap bs) i) || nat_lt (unsigned_at bs (place + i * wide width) width) bound
+abbrev pub marked_below : Keys → ℕ → Bool
+marked_below keys i = not (is_marked keys.marks i) || nat_lt (slot_number keys.slots i) keys.bound

@@ -1,51 +1,53 @@
-ghost use Rattle.std.specs.Prelude.{◌≡◌, ℕ, ◌+◌, ◌-◌, ◌*◌, ◌/◌, ◌%◌, ◌^◌, ◌<◌, ◌≤◌, length, slice_index, slice_set};
+ghost use Rattle.std.specs.Prelude.{◌≡◌, ℕ, ◌<◌, ◌≤◌, List, [], ◌∷◌, ◌++◌, length};
+ghost use Rattle.opening.specs.Ends.{Leaves};
 
-use crate::check::MOST_DEEP;
+use crate::subject::MOST_DEEP;
+use arrayvec::ArrayVec;
+use std::marker::Model;
 
 /// Where the nodes end that a walk over a table stands below, the innermost last.
 #[derive(Drop)]
 pub struct Ancestors {
-    ends: [u64; MOST_DEEP],
-    count: usize,
-    ghost within: { count ≤ 64 },
+    ends: ArrayVec<u64, MOST_DEEP>,
+}
+
+impl Model for Ancestors {
+    ghost Value = { List ℕ };
+
+    ghost view = { λ a. a.ends.items };
 }
 
 impl Ancestors {
     pub fn none() -> Ancestors
-        ensures { result.count ≡ 0 }
+        ensures { result ≡ [] }
     {
         Ancestors {
-            ends: [0; MOST_DEEP],
-            count: 0,
+            ends: ArrayVec::new(),
         }
     }
 
     /// How many they are.
     pub fn count(&self) -> u64
-        ensures { result ≡ self.now.count }
+        ensures number { result ≡ length self.now }
+        ensures few { result ≤ 64 }
     {
-        self.count as u64
+        self.ends.len() as u64
     }
 
     /// Leaves the innermost ones that end before node i or at it.
     pub fn leave(&mut self, i: u64)
-        ensures ends { self.new.ends ≡ self.old.ends }
-        ensures fewer { self.new.count ≤ self.old.count }
-        ensures gone { (k : ℕ) → self.new.count ≤ k → k < self.old.count → slice_index self.old.ends k ≤ i }
-        ensures left { 0 < self.new.count → i < slice_index self.old.ends (self.new.count - 1) }
+        ensures { Leaves i self.old self.new }
     {
-        while self.count > 0 && self.ends[self.count - 1] <= i {
-            self.count -= 1;
+        while self.ends.last().is_some_and(|end| *end <= i) {
+            let _ = self.ends.pop();
         }
     }
 
     /// Enters a node that ends at `end`.
     pub fn enter(&mut self, end: u64)
-        requires { self.old.count < 64 }
-        ensures ends { self.new.ends ≡ slice_set self.old.ends self.old.count end }
-        ensures count { self.new.count ≡ self.old.count + 1 }
+        requires { length self.old < 64 }
+        ensures { self.new ≡ self.old ++ end ∷ [] }
     {
-        self.ends[self.count] = end;
-        self.count += 1;
+        self.ends.push(end);
     }
 }

@@ -3,7 +3,11 @@
 
 mod ancestors;
 mod check;
+mod children;
+mod placed;
 mod scan;
+mod slots;
+mod subject;
 mod verdict;
 
 pub use verdict::judge;

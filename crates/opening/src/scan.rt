@@ -1,130 +1,95 @@
 //! Scans of offsets and keys. They look at every number and leave at the end, so that they compile to vectors.
-ghost use Rattle.std.specs.Prelude.{◌≡◌, ℕ, ◌+◌, ◌-◌, ◌*◌, ◌/◌, ◌%◌, ◌^◌, ◌<◌, ◌≤◌, length, nat_le, nat_lt};
+ghost use Rattle.std.specs.Prelude.{◌≡◌, ℕ, ◌+◌, ◌-◌, ◌*◌, ◌/◌, ◌%◌, ◌^◌, ◌<◌, ◌≤◌, Bool, length, nat_le, nat_lt};
 ghost use Rattle.layout.specs.Lists.{every};
-ghost use Rattle.layout.specs.Numbers.{wide, unsigned_at};
-ghost use Rattle.layout.specs.Bits.{bytes_for, flags};
-ghost use Rattle.opening.specs.Scans.{marked_below};
+ghost use Rattle.layout.specs.Bits.{flags};
+ghost use Rattle.opening.specs.Scans.{slot_number, marked_below};
 
-use layout::{Width, read_bit, read_unsigned};
+use crate::slots::{Keys, Slots};
+use layout::WholeBytes;
 
-/// Whether none of the numbers in slots from to from + rows is less than the one before it.
-pub fn rises(bytes: &[u8], width: Width, place: u64, from: u64, rows: u64) -> bool
-    requires rows_bound { from + rows ≤ 2147483647 }
-    requires width_in_bounds { place + (from + rows + 1) * wide width ≤ length bytes.now }
-    ensures { result ≡ every rows (λ k. nat_le (unsigned_at bytes.now (place + (from + k) * wide width) width) (unsigned_at bytes.now (place + (from + (k + 1)) * wide width) width)) }
+// Whether each number below n passes.
+fn every<F: Fn(u64) -> bool>(n: u64, passes: F) -> bool
+    requires { (k : ℕ) → k < n → F.pre passes k }
+    ensures { (p : ℕ → Bool) → ((k : ℕ) (b : Bool) → k < n → F.post passes k b → b ≡ p k)
+        → result ≡ every n p }
 {
-    let w = width.bytes() as u64;
     let mut ok = true;
-    for k in 0..rows {
-        let x = read_unsigned(bytes, (place + (from + k) * w) as usize, width);
-        let y = read_unsigned(bytes, (place + (from + (k + 1)) * w) as usize, width);
-        ok &= x <= y;
+    for k in 0..n {
+        ok &= passes(k);
     }
     ok
 }
 
-/// Whether every number in slots from to from + rows - 1 is below a bound.
-pub fn all_below(bytes: &[u8], width: Width, place: u64, from: u64, rows: u64, bound: u64) -> bool
-    requires rows_bound { from + rows ≤ 2147483647 }
-    requires width_in_bounds { place + (from + rows) * wide width ≤ length bytes.now }
-    ensures { result ≡ every rows (λ k. nat_lt (unsigned_at bytes.now (place + (from + k) * wide width) width) bound) }
-{
-    let w = width.bytes() as u64;
-    let mut ok = true;
-    for k in 0..rows {
-        let x = read_unsigned(bytes, (place + (from + k) * w) as usize, width);
-        ok &= x < bound;
+impl Slots<'_> {
+    /// Whether none of the numbers in slots from to from + rows is less than the one before it.
+    pub fn rises(&self, from: u64, rows: u64) -> bool
+        requires { from + rows < self.now.count }
+        ensures { result ≡ every rows
+            (λ k. nat_le (slot_number self.now (from + k)) (slot_number self.now (from + (k + 1)))) }
+    {
+        every(
+            rows,
+            |k| self.number(from + k) <= self.number(from + (k + 1)),
+        )
     }
-    ok
+
+    /// Whether every number in slots from to from + rows - 1 is below a bound.
+    pub fn all_below(&self, from: u64, rows: u64, bound: u64) -> bool
+        requires { from + rows ≤ self.now.count }
+        ensures { result ≡ every rows (λ k. nat_lt (slot_number self.now (from + k)) bound) }
+    {
+        every(rows, |k| self.number(from + k) < bound)
+    }
+
+    // A bit for each of eight numbers, from slot `first` on: 1 where it is not below the bound.
+    fn eight_not_below(&self, first: u64, bound: u64) -> u8
+        requires { first + 8 ≤ self.now.count }
+        ensures { result ≡ flags 8 (λ t. nat_le bound (slot_number self.now (first + t))) }
+    {
+        (0..8).fold(0, |over, t| {
+            over | u8::from(self.number(first + t) >= bound) << (t as u32)
+        })
+    }
 }
 
-/// The same of those whose bit is 1, in a bitmap at `bitmap`: row by row up to a whole byte of the bitmap, then eight
-/// rows at a time, then row by row again.
-pub fn marked_below(
-    bytes: &[u8],
-    bitmap: u64,
-    width: Width,
-    place: u64,
-    from: u64,
-    rows: u64,
-    bound: u64,
-) -> bool
-    requires few { from + rows ≤ 2147483647 }
-    requires slots { place + (from + rows) * wide width ≤ length bytes.now }
-    requires bits { bitmap + bytes_for (from + rows) ≤ length bytes.now }
-    ensures { result ≡ every rows (λ k. marked_below bytes.now bitmap width place bound (from + k)) }
-{
-    let head = rows.min((8 - from % 8) % 8);
-    let whole = (rows - head) / 8;
-    let first = from + head;
-    let last = first + 8 * whole;
-    if !row_by_row(bytes, bitmap, width, place, from, head, bound) {
-        return false;
+impl Keys<'_> {
+    /// Whether the valid ones of rows from to from + rows - 1 are below the bound: row by row up to a whole byte of the
+    /// bitmap, then eight rows at a time, then row by row again.
+    pub fn all_below(&self, from: u64, rows: u64) -> bool
+        requires { from + rows ≤ self.now.slots.count }
+        ensures { result ≡ every rows (λ k. marked_below self.now (from + k)) }
+    {
+        let parts = WholeBytes::among(from, rows);
+        let first = from + parts.before;
+        let last = first + 8 * parts.bytes;
+        self.row_by_row(from, parts.before)
+            && self.byte_by_byte(first / 8, parts.bytes)
+            && self.row_by_row(last, parts.after)
     }
-    if !byte_by_byte(bytes, bitmap, width, place, first / 8, whole, bound) {
-        return false;
-    }
-    row_by_row(bytes, bitmap, width, place, last, from + rows - last, bound)
-}
 
-fn row_by_row(
-    bytes: &[u8],
-    bitmap: u64,
-    width: Width,
-    place: u64,
-    from: u64,
-    rows: u64,
-    bound: u64,
-) -> bool
-    requires few { from + rows ≤ 2147483647 }
-    requires slots { place + (from + rows) * wide width ≤ length bytes.now }
-    requires bits { bitmap + bytes_for (from + rows) ≤ length bytes.now }
-    ensures { result ≡ every rows (λ k. marked_below bytes.now bitmap width place bound (from + k)) }
-{
-    let w = width.bytes() as u64;
-    let mut ok = true;
-    for k in 0..rows {
-        let x = read_unsigned(bytes, (place + (from + k) * w) as usize, width);
-        let valid = read_bit(bytes, bitmap as usize, from + k);
-        ok &= !valid | (x < bound);
+    // The same, row by row.
+    fn row_by_row(&self, from: u64, rows: u64) -> bool
+        requires { from + rows ≤ self.now.slots.count }
+        ensures { result ≡ every rows (λ k. marked_below self.now (from + k)) }
+    {
+        every(rows, |k| {
+            !self.marks.is_set(from + k) | (self.slots.number(from + k) < self.bound)
+        })
     }
-    ok
-}
 
-// The rows of `count` bytes of the bitmap, from its byte `first` on.
-fn byte_by_byte(
-    bytes: &[u8],
-    bitmap: u64,
-    width: Width,
-    place: u64,
-    first: u64,
-    count: u64,
-    bound: u64,
-) -> bool
-    requires few { 8 * (first + count) ≤ 2147483647 }
-    requires slots { place + 8 * (first + count) * wide width ≤ length bytes.now }
-    requires bits { bitmap + (first + count) ≤ length bytes.now }
-    ensures { result ≡ every (8 * count) (λ k. marked_below bytes.now bitmap width place bound (8 * first + k)) }
-{
-    let mut ok = true;
-    for j in 0..count {
-        let over = eight_not_below(bytes, width, place, 8 * (first + j), bound);
-        ok &= over & bytes[(bitmap + (first + j)) as usize] == 0;
+    // The rows of `count` bytes of the bitmap, from its byte `first` on.
+    fn byte_by_byte(&self, first: u64, count: u64) -> bool
+        requires { 8 * (first + count) ≤ self.now.slots.count }
+        ensures { result ≡ every (8 * count) (λ k. marked_below self.now (8 * first + k)) }
+    {
+        every(count, |j| self.eight_below(first + j))
     }
-    ok
-}
 
-// A bit for each of eight numbers, from slot `first` on: 1 where it is not below the bound.
-fn eight_not_below(bytes: &[u8], width: Width, place: u64, first: u64, bound: u64) -> u8
-    requires few { first + 8 ≤ 2147483647 }
-    requires slots { place + (first + 8) * wide width ≤ length bytes.now }
-    ensures { result ≡ flags 8 (λ t. nat_le bound (unsigned_at bytes.now (place + (first + t) * wide width) width)) }
-{
-    let w = width.bytes() as u64;
-    let mut over = 0u8;
-    for t in 0..8u64 {
-        let x = read_unsigned(bytes, (place + (first + t) * w) as usize, width);
-        over += u8::from(x >= bound) << (t as u32);
+    // The eight rows of byte j of the bitmap.
+    fn eight_below(&self, j: u64) -> bool
+        requires { 8 * j + 8 ≤ self.now.slots.count }
+        ensures { result ≡ every 8 (λ t. marked_below self.now (8 * j + t)) }
+    {
+        self.slots.eight_not_below(8 * j, self.bound) & self.marks.byte(j) == 0
     }
-    over
 }

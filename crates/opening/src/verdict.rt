@@ -17,18 +17,17 @@ pub fn judge(nodes: &[u8], bytes: &[u8]) -> Result<(), Fault>
     ensures { Verdict nodes.now bytes.now result }
 {
     if nodes.len() % NODE_BYTES != 0 {
-        return Err(Fault::new(Refusal::NodeBytes, 0, 0));
+        return Err(Fault::from(Refusal::NodeBytes));
     }
     let count = nodes.len() / NODE_BYTES;
     if count > MOST_NODES || bytes.len() > MOST_BYTES {
-        return Err(Fault::new(Refusal::TooLarge, 0, 0));
+        return Err(Fault::from(Refusal::TooLarge));
     }
     let mut ancestors = Ancestors::none();
     for i in 0..count {
+        let fault = |refusal| Fault::new(refusal, 0, i as u64);
         ancestors.leave(i as u64);
-        if let Err(refusal) = check_node(nodes, bytes, i, ancestors.count() + 1) {
-            return Err(Fault::new(refusal, 0, i as u64));
-        }
+        check_node(nodes, bytes, i, ancestors.count() + 1).map_err(fault)?;
         ancestors.enter(i as u64 + Node::at(nodes, i).span);
     }
     Ok(())

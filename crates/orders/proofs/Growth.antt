@@ -1,28 +1,20 @@
 -- The cases so far, and one more or more of the last.
-use Rattle.std.proofs.Common.{◌≡◌, ℕ, zero, suc, ◌<◌, List, [], ◌∷◌, ◌++◌, map, length, get_or, set, None, Ok, Err, vec_items, vec_len, Result, Vec, sym, refl, ap, ◌∙◌, arith}
+use Rattle.std.proofs.Common.{◌≡◌, ℕ, zero, suc, ◌<◌, List, [], ◌∷◌, map, length, get_or, set, Ok, Err, vec_items, vec_len, Result, Vec, sym, ap, ◌∙◌, arith}
 use Rattle.std.specs.declared.alloc.Global.{Global}
 use Rattle.std.proofs.lemmas.List.{length-map}
 use Rattle.orders.specs.declared.Case.{Case}
 use Rattle.orders.specs.declared.error.Why.{Why}
-use Rattle.orders.specs.Orders.{Spelled, spelled, cases_in, fresh, begun, to_last, Makes}
+use Rattle.orders.specs.Orders.{Spelled, spelled, cases_in, begun, to_last, Makes}
 
 pub makes_map : (r : Result (Unit {0}) Why) (P Q : Type 0) → (P → Q) → Makes r P → Makes r Q
 makes_map (Ok u) P Q f h = f h
 makes_map (Err why) P Q f h = h
 
-pub begun_none : (cs : List Spelled) → length cs ≡ 0 → cs ++ fresh None ∷ [] ≡ begun cs
-begun_none [] h = refl
-begun_none (c ∷ cs) h = absurd (omega arith)
-
-pub begun_some : (cs : List Spelled) → 0 < length cs → cs ≡ begun cs
-begun_some [] h = absurd (omega arith)
-begun_some (c ∷ cs) h = refl
-
 begun_long : (cs : List Spelled) → 0 < length (begun cs)
 begun_long [] = omega arith
 begun_long (c ∷ cs) = omega arith
 
-pub long : (v : Vec Case Global) → length (cases_in v) ≡ vec_len v
+long : (v : Vec Case Global) → length (cases_in v) ≡ vec_len v
 long v = length-map (vec_items v) spelled ∙ sym v.ok.0
 
 pub some_begun : (v : Vec Case Global) (cs : List Spelled) → cases_in v ≡ begun cs → 0 < vec_len v

@@ -1,8 +1,8 @@
+mod Cuts
 mod Digits
 mod Ends
 mod Growth
 mod Lines
+mod Numbers
 mod Pairs
-mod Sayings
-mod Tens
 mod Verbs

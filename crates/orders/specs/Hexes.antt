@@ -1,6 +1,7 @@
 -- Bytes in hex.
-use Rattle.std.specs.Prelude.{ℕ, ◌+◌, ◌*◌, cond, List, [], ◌∷◌, Some, None, Ok, Err, codes, Option, Result, nat_lt}
+use Rattle.std.specs.Prelude.{ℕ, ◌+◌, ◌*◌, cond, List, [], ◌∷◌, Some, None, Err, codes, Option, Result, nat_lt}
 use Rattle.std.specs.Char.{digit_value}
+use Rattle.std.specs.Option.{ok_or}
 use Rattle.std.specs.Str.{bytes_eq}
 use Rattle.orders.specs.declared.error.Why.{Why}
 use Rattle.orders.specs.declared.error.Why.TheVariants.{MissingWord, NotHex}
@@ -31,12 +32,8 @@ pairs_in [] = Some []
 pairs_in (a ∷ []) = cond (is_blank a) (Some []) None
 pairs_in (a ∷ b ∷ rest) = cond (is_blank a) (pairs_in (b ∷ rest)) (before (hex_pair a b) (pairs_in rest))
 
-abbrev pub or_not_hex : Option (List ℕ) → Result (List ℕ) Why
-or_not_hex None = Err NotHex
-or_not_hex (Some bs) = Ok bs
-
 abbrev pub pairs_read : List ℕ → Result (List ℕ) Why
-pairs_read text = or_not_hex (pairs_in text)
+pairs_read text = ok_or (pairs_in text) NotHex
 
 -- the bytes that the rest of a line spells; `-` alone spells none
 unfoldable pub hex_read : List ℕ → Result (List ℕ) Why

@@ -1,5 +1,6 @@
 -- What a line of an order says.
 use Rattle.std.specs.Prelude.{◌≡◌, ℕ, zero, suc, cond, ◌⊎◌, List, [], ◌∷◌, Some, None, Ok, Err, vec_items, string_bytes, codes, IsUtf8, Option, Result, slice_index}
+use Rattle.std.specs.Option.{ok_or}
 use Rattle.std.specs.Str.{bytes_eq}
 use Rattle.layout.specs.declared.node.Node as layout
 use Rattle.orders.specs.declared.error.Why.{Why}
@@ -61,6 +62,9 @@ verb_of w =
     (cond (bytes_eq w (codes "nodesfile")) (Some (File Nodes))
     (cond (bytes_eq w (codes "bytesfile")) (Some (File Bytes)) None)))))
 
+abbrev pub verb_read : List ℕ → Result Verb Why
+verb_read w = ok_or (verb_of w) UnknownItem
+
 -- what an item says, whatever memory holds it
 pub data Saying : Type 0 where
   a_case : List ℕ → Saying
@@ -87,15 +91,15 @@ rest_read Node rest = map_ok a_node (node_read rest)
 rest_read (Hex part) rest = map_ok (a_hex part) (hex_read rest)
 rest_read (File part) rest = map_ok (a_file part) (only_word rest)
 
-abbrev pub item_by : Option Verb → List ℕ → Result (Option Saying) Why
-item_by None rest = Err UnknownItem
-item_by (Some verb) rest = map_ok (λ s. Some s) (rest_read verb rest)
+abbrev pub item_by : Result Verb Why → List ℕ → Result (Option Saying) Why
+item_by (Err why) rest = Err why
+item_by (Ok verb) rest = map_ok (λ s. Some s) (rest_read verb rest)
 
 -- a line without a word says nothing
 unfoldable pub item_read : List ℕ → Result (Option Saying) Why
 item_read line =
     cond (is_empty (word_in (uncommented line))) (Ok None)
-    (item_by (verb_of (word_in (uncommented line))) (after_word (uncommented line)))
+    (item_by (verb_read (word_in (uncommented line))) (after_word (uncommented line)))
 
 -- why nothing is given: memory ran out, the reading fails, or a word is no text
 abbrev pub Refuses : {Y : Type 0} → (Y → Type 0) → Why → Result Y Why → Type 0

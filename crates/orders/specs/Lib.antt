@@ -3,3 +3,4 @@ pub mod Numbers
 pub mod Hexes
 pub mod Items
 pub mod Orders
+pub mod Words

@@ -1,5 +1,5 @@
 -- An order: lines that spell cases.
-use Rattle.std.specs.Prelude.{◌≡◌, ℕ, ◌+◌, cond, ◌⊎◌, List, [], ◌∷◌, ◌++◌, map, length, Some, None, Ok, Err, vec_items, string_bytes, Option, Result, Vec, ◌==◌}
+use Rattle.std.specs.Prelude.{◌≡◌, ℕ, ◌+◌, ◌⊎◌, List, [], ◌∷◌, ◌++◌, map, length, Some, None, Ok, Err, vec_items, string_bytes, Option, Result, Vec}
 use Rattle.std.specs.Option.{option_map}
 use Rattle.std.specs.declared.alloc.Global.{Global}
 use Rattle.std.specs.declared.io.Error.{Error}
@@ -10,6 +10,7 @@ use Rattle.orders.specs.declared.error.Why.{Why}
 use Rattle.orders.specs.declared.error.Why.TheVariants.{File, Memory}
 use Rattle.orders.specs.declared.item.Part.{Part}
 use Rattle.orders.specs.declared.item.Part.TheVariants.{Nodes, Bytes}
+use Rattle.orders.specs.Texts.{lines_in}
 use Rattle.orders.specs.Items.{Saying, a_case, a_node, a_hex, a_file, item_read, IsTextIn, Refuses}
 
 -- ---- cases
@@ -28,6 +29,10 @@ cases_in cases = map spelled (vec_items cases)
 
 abbrev pub fresh : Option (List ℕ) → Spelled
 fresh name = record { name = name; nodes = []; bytes = [] }
+
+-- one more case, empty so far
+abbrev pub started : Option (List ℕ) → List Spelled → List Spelled
+started name cs = cs ++ fresh name ∷ []
 
 abbrev pub appended : Part → List ℕ → Spelled → Spelled
 appended Nodes more c = record { name = c.name; nodes = c.nodes ++ more; bytes = c.bytes }
@@ -49,19 +54,10 @@ grown part more cs = to_last (appended part more) (begun cs)
 
 -- ---- lines
 
-abbrev pub longer : ℕ → List (List ℕ) → List (List ℕ)
-longer b [] = (b ∷ []) ∷ []
-longer b (line ∷ lines) = (b ∷ line) ∷ lines
-
--- a line feed ends each line, and may end the last
-abbrev pub lines_in : List ℕ → List (List ℕ)
-lines_in [] = []
-lines_in (b ∷ bs) = cond (b == 10) ([] ∷ lines_in bs) (longer b (lines_in bs))
-
 -- what a line makes of the cases before it; what a file holds is not said
 abbrev pub Does : Option Saying → List Spelled → List Spelled → Type 0
 Does None cs ds = ds ≡ cs
-Does (Some (a_case name)) cs ds = ds ≡ cs ++ fresh (Some name) ∷ []
+Does (Some (a_case name)) cs ds = ds ≡ started (Some name) cs
 Does (Some (a_node node)) cs ds = (bytes : List ℕ) × (length bytes ≡ 80) × (node_in bytes 0 ≡ node) × (ds ≡ grown Nodes bytes cs)
 Does (Some (a_hex part bytes)) cs ds = ds ≡ grown part bytes cs
 Does (Some (a_file part path)) cs ds = (bytes : List ℕ) × (ds ≡ grown part bytes cs)
@@ -83,6 +79,10 @@ Follows line cs (Err why) ds = BadLine line why
 abbrev pub Makes : Result (Unit {0}) Why → Type 0 → Type 0
 Makes (Ok u) fact = fact
 Makes (Err why) fact = why ≡ Memory
+
+-- what f makes of the cases so far, unless memory runs out
+abbrev pub Turns : (List Spelled → List Spelled) → Vec Case Global → Result (Unit {0}) Why → Vec Case Global → Type 0
+Turns f old r new = Makes r (cases_in new ≡ f (cases_in old))
 
 -- ---- whole orders
 

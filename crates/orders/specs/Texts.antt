@@ -1,7 +1,8 @@
 -- Lines and words of bytes.
-use Rattle.std.specs.Prelude.{◌≡◌, ℕ, ◌+◌, Bool, true, false, cond, not, ◌||◌, ◌⊎◌, List, length, take, drop, Ok, Err, Result, ◌==◌}
-use Rattle.std.specs.Bool.{beq}
-use Rattle.std.specs.List.{prefix_len}
+use Rattle.std.specs.Prelude.{◌≡◌, ℕ, Bool, true, false, cond, not, ◌||◌, ◌⊎◌, List, [], ◌∷◌, length, drop, Ok, Err, Result, ◌==◌}
+use Rattle.std.specs.Borrow.{Bor}
+use Rattle.std.specs.Fn.{Called, Mut}
+use Rattle.std.specs.List.{position_or_len, before_first, after_first, onto_first}
 use Rattle.orders.specs.declared.error.Why.{Why}
 use Rattle.orders.specs.declared.error.Why.TheVariants.{MissingWord, ExtraWord, Memory}
 
@@ -9,38 +10,57 @@ use Rattle.orders.specs.declared.error.Why.TheVariants.{MissingWord, ExtraWord, 
 abbrev pub is_blank : ℕ → Bool
 is_blank b = b == 32 || (b == 9 || b == 13)
 
--- how many bytes stand before the first `stop`
-abbrev pub length_before : ℕ → List ℕ → ℕ
-length_before stop bs = prefix_len (λ b. not (b == stop)) bs
+-- a text from its first byte on that passes p, or its end where none does
+abbrev pub from_first : (ℕ → Bool) → List ℕ → List ℕ
+from_first p bs = drop (position_or_len p bs) bs
 
--- how many bytes at the front are blanks, or how many are none
-abbrev pub run_length : Bool → List ℕ → ℕ
-run_length blank bs = prefix_len (λ b. beq (is_blank b) blank) bs
+-- what stands before a text's first byte that passes p, and the text from there on
+pub record IsCut (p : ℕ → Bool) (text before after : List ℕ) : Type 0 where
+  pub front : before ≡ before_first p text
+  pub back : after ≡ from_first p text
+
+-- each call of a closure, which changes nothing, answers what p does of the byte
+abbrev pub Tests : {F : Type 0} → Mut F (Bor ℕ × Unit {0}) Bool → F → (ℕ → Bool) → Type 0
+Tests {F} g f p = (x : Bor ℕ) (b : Bool) (q : F) → Called g f (x, tt) b q → (q ≡ f) × (b ≡ p x.now)
 
 -- the first line, and what follows its end
 unfoldable pub line_in : List ℕ → List ℕ
-line_in bs = take (length_before 10 bs) bs
+line_in bs = before_first (λ b. b == 10) bs
 
 unfoldable pub after_line : List ℕ → List ℕ
-after_line bs = drop (length_before 10 bs + 1) bs
+after_line bs = after_first (λ b. b == 10) bs
+
+-- a line feed ends each line, and may end the last
+abbrev pub lines_in : List ℕ → List (List ℕ)
+lines_in [] = []
+lines_in (b ∷ bs) = cond (b == 10) ([] ∷ lines_in bs) (onto_first b (lines_in bs))
 
 -- a line up to its comment
 unfoldable pub uncommented : List ℕ → List ℕ
-uncommented bs = take (length_before 35 bs) bs
+uncommented bs = before_first (λ b. b == 35) bs
 
 -- the bytes from the first on that is no blank
 unfoldable pub unblanked : List ℕ → List ℕ
-unblanked bs = drop (run_length true bs) bs
+unblanked bs = from_first (λ b. not (is_blank b)) bs
 
 -- the first word, and what follows it
 unfoldable pub word_in : List ℕ → List ℕ
-word_in bs = take (run_length false (unblanked bs)) (unblanked bs)
+word_in bs = before_first is_blank (unblanked bs)
 
 unfoldable pub after_word : List ℕ → List ℕ
-after_word bs = drop (run_length false (unblanked bs)) (unblanked bs)
+after_word bs = from_first is_blank (unblanked bs)
 
 abbrev pub is_empty : List ℕ → Bool
 is_empty bs = length bs == 0
+
+abbrev pub LacksWord : List ℕ → Type 0
+LacksWord text = is_empty (word_in text) ≡ true
+
+-- a text's first word, and what follows it
+pub record IsFirstWord (text first after : List ℕ) : Type 0 where
+  pub some : is_empty (word_in text) ≡ false
+  pub word : first ≡ word_in text
+  pub rest : after ≡ after_word text
 
 -- a value, where no word follows
 unfoldable pub at_end : {X : Type 0} → List ℕ → X → Result X Why

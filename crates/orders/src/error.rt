@@ -1,11 +1,15 @@
 ghost use Rattle.std.specs.Prelude.{◌≡◌};
-ghost use Rattle.orders.specs.declared.error.Why.TheVariants.{File, Memory};
+ghost use Rattle.orders.specs.Words.{why_words, order_error_words};
+ghost use Rattle.orders.specs.declared.error.Why.TheVariants.{File, Memory, NotText};
 
 use std::alloc::{AllocError, AllocFailed};
+use std::error::Error;
+use std::str::Utf8Error;
 use std::{fmt, io};
 
 /// Why a line of an order cannot be read.
-#[derive(Clone, Copy)]
+// An `io::Error` can be neither compared nor hashed.
+#[derive(Clone, Copy, Debug)]
 pub enum Why {
     UnknownItem,
     MissingWord,
@@ -19,6 +23,8 @@ pub enum Why {
 }
 
 impl fmt::Display for Why {
+    ghost output = { why_words };
+
     fn fmt<W: fmt::Write>(&self, f: &mut fmt::Formatter<W>) -> fmt::Result {
         match self {
             Why::UnknownItem => f.write_str("no item has this name"),
@@ -33,6 +39,8 @@ impl fmt::Display for Why {
         }
     }
 }
+
+impl Error for Why {}
 
 impl From<AllocError> for Why {
     ghost from_gives = { λ _ r. r ≡ Memory };
@@ -58,17 +66,27 @@ impl From<io::Error> for Why {
     }
 }
 
+impl From<Utf8Error> for Why {
+    ghost from_gives = { λ _ r. r ≡ NotText };
+
+    fn from(_error: Utf8Error) -> Why {
+        Why::NotText
+    }
+}
+
 /// The first line that cannot be read, counted from 1, and why.
-#[derive(Clone, Copy)]
+#[derive(Clone, Copy, Debug)]
 pub struct OrderError {
     pub line: u64,
     pub why: Why,
 }
 
 impl fmt::Display for OrderError {
+    ghost output = { order_error_words };
+
     fn fmt<W: fmt::Write>(&self, f: &mut fmt::Formatter<W>) -> fmt::Result {
-        let line = self.line;
-        let why = self.why;
-        write!(f, "line {line}: {why}")
+        write!(f, "line {}: {}", self.line, self.why)
     }
 }
+
+impl Error for OrderError {}

@@ -1,28 +1,25 @@
 //! What a line of an order says.
 ghost use Rattle.std.specs.Prelude.{◌≡◌, string_bytes, IsUtf8};
 ghost use Rattle.orders.specs.Texts.{only_word};
-ghost use Rattle.orders.specs.Items.{numbers_in, node_read, verb_of, said, said_by, rest_read, item_read, IsText, IsTextIn, ReadsText};
+ghost use Rattle.orders.specs.Items.{numbers_in, node_read, verb_read, said, said_by, rest_read, item_read, IsText, IsTextIn, ReadsText};
 
 use crate::error::Why;
 use crate::hex::read_hex;
 use crate::number::read_number;
-use crate::text::{expect_end, only_word, split_word, without_comment};
+use crate::text::{expect_end, expect_word, only_word, split_word, without_comment};
 use layout::Node;
 use std::alloc::Global;
 use std::str;
 
-/// How many numbers spell a node.
-const NUMBERS: usize = 10;
-
 /// The two runs of bytes that a case is made of.
-#[derive(Clone, Copy)]
+#[derive(Clone, Copy, Debug, PartialEq, Eq, Hash)]
 pub enum Part {
     Nodes,
     Bytes,
 }
 
 /// What to do to the cases so far.
-#[derive(Drop)]
+#[derive(Debug, Drop)]
 pub enum Item {
     Case(String),
     Node(Node),
@@ -31,7 +28,7 @@ pub enum Item {
 }
 
 // The word that a line begins with.
-#[derive(Clone, Copy)]
+#[derive(Clone, Copy, Debug, PartialEq, Eq, Hash)]
 enum Verb {
     Case,
     Node,
@@ -39,40 +36,38 @@ enum Verb {
     File(Part),
 }
 
-impl Verb {
-    fn of(word: &[u8]) -> Option<Verb>
-        ensures { result ≡ verb_of word.now }
-    {
-        let Ok(text) = str::from_utf8(word) else {
-            return None;
-        };
-        match text {
-            "case" => Some(Verb::Case),
-            "node" => Some(Verb::Node),
-            "nodes" => Some(Verb::Hex(Part::Nodes)),
-            "bytes" => Some(Verb::Hex(Part::Bytes)),
-            "nodesfile" => Some(Verb::File(Part::Nodes)),
-            "bytesfile" => Some(Verb::File(Part::Bytes)),
-            _ => None,
+impl TryFrom<&[u8]> for Verb {
+    type Error = Why;
+
+    ghost try_from_gives = { λ word r. r ≡ verb_read word.now };
+
+    fn try_from(word: &[u8]) -> Result<Verb, Why> {
+        match word {
+            b"case" => Ok(Verb::Case),
+            b"node" => Ok(Verb::Node),
+            b"nodes" => Ok(Verb::Hex(Part::Nodes)),
+            b"bytes" => Ok(Verb::Hex(Part::Bytes)),
+            b"nodesfile" => Ok(Verb::File(Part::Nodes)),
+            b"bytesfile" => Ok(Verb::File(Part::Bytes)),
+            _ => Err(Why::UnknownItem),
         }
     }
 }
 
 /// The item of a line, if it has one.
+#[tactic(auto, unfolding(crate::specs::Items::item_read))]
 pub fn read_item(heap: Global, line: &[u8]) -> Result<Option<Item>, Why>
     ensures { ReadsText said_by IsTextIn result (item_read line.now) }
 {
-    let (word, rest) = split_word(without_comment(line));
-    if word.is_empty() {
+    let Some((word, rest)) = split_word(without_comment(line)) else {
         return Ok(None);
-    }
-    let Some(verb) = Verb::of(word) else {
-        return Err(Why::UnknownItem);
     };
+    let verb = Verb::try_from(word)?;
     Ok(Some(read_rest(heap, verb, rest)?))
 }
 
 // The item that a verb and the rest of its line make.
+#[tactic(auto, unfolding(crate::specs::Items::rest_read))]
 fn read_rest(heap: Global, verb: Verb, rest: &[u8]) -> Result<Item, Why>
     ensures { ReadsText said IsText result (rest_read verb rest.now) }
 {
@@ -88,53 +83,26 @@ fn read_rest(heap: Global, verb: Verb, rest: &[u8]) -> Result<Item, Why>
 fn read_word(heap: Global, text: &[u8]) -> Result<String, Why>
     ensures { ReadsText string_bytes IsUtf8 result (only_word text.now) }
 {
-    match str::from_utf8(only_word(text)?) {
-        Ok(word) => Ok(String::from_str(heap, word)?),
-        Err(_) => Err(Why::NotText),
-    }
+    let word = str::from_utf8(only_word(text)?)?;
+    Ok(String::from_str(heap, word)?)
 }
 
 // The node that ten numbers spell, and nothing after them.
 fn read_node(text: &[u8]) -> Result<Node, Why>
     ensures { result ≡ node_read text.now }
 {
-    let [
-        kind,
-        mark,
-        size,
-        rows,
-        from,
-        bitmap,
-        slots,
-        data,
-        extent,
-        span,
-    ] = read_numbers(text)?;
-    Ok(Node {
-        kind,
-        mark,
-        size,
-        rows,
-        from,
-        bitmap,
-        slots,
-        data,
-        extent,
-        span,
-    })
+    Ok(Node::from(read_numbers(text)?))
 }
 
-fn read_numbers(text: &[u8]) -> Result<[u64; NUMBERS], Why>
-    ensures { result ≡ numbers_in 10 text.now }
+// So many numbers, a word each, and nothing after them.
+fn read_numbers<const N: usize>(text: &[u8]) -> Result<[u64; N], Why>
+    ensures { result ≡ numbers_in N text.now }
 {
-    let mut numbers = [0; NUMBERS];
+    let mut numbers = [0; N];
     let mut rest = text;
-    for k in 0..NUMBERS {
-        let (word, after) = split_word(rest);
-        if word.is_empty() {
-            return Err(Why::MissingWord);
-        }
-        numbers[k] = read_number(word)?;
+    for number in &mut numbers {
+        let (word, after) = expect_word(rest)?;
+        *number = read_number(word)?;
         rest = after;
     }
     expect_end(rest)?;

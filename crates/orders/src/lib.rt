@@ -9,7 +9,7 @@
 
 ghost use Rattle.std.specs.Prelude.{◌≡◌, [], ◌∷◌, ◌++◌, string_bytes};
 ghost use Rattle.std.specs.Option.{option_map};
-ghost use Rattle.orders.specs.Orders.{spelled, fresh, appended, cases_in, begun, grown, Makes, Follows, OrderRead};
+ghost use Rattle.orders.specs.Orders.{spelled, fresh, started, appended, cases_in, begun, grown, Makes, Turns, Follows, OrderRead};
 
 mod error;
 mod hex;
@@ -21,10 +21,11 @@ pub use error::{OrderError, Why};
 use item::{Item, Part, read_item};
 use std::alloc::Global;
 use std::fs;
-use text::split_line;
+use std::rt::Files;
+use text::Lines;
 
 /// A recording to open: its node table and its bytes. A case before the first `case` line has no name.
-#[derive(Drop)]
+#[derive(Debug, Drop)]
 pub struct Case {
     pub name: Option<String>,
     pub nodes: Vec<u8>,
@@ -54,64 +55,57 @@ impl Case {
 }
 
 /// The cases of an order, at least one.
-pub fn read_order(rt: &HostRuntime, text: &[u8]) -> Result<Vec<Case>, OrderError>
+pub fn read_order(rt: &(impl Files + AllocGlobal), text: &[u8]) -> Result<Vec<Case>, OrderError>
     ensures { OrderRead text.now result }
 {
     let mut cases = Vec::new(rt.alloc());
+    // The last line is named where memory runs out after it.
     let mut line = 0;
-    let mut rest = text;
-    while !rest.is_empty() {
-        let (this, after) = split_line(rest);
-        line += 1;
-        if let Err(why) = follow(rt, this, &mut cases) {
-            return Err(OrderError { line, why });
-        }
-        rest = after;
+    for (before, words) in Lines(text).enumerate() {
+        line = before as u64 + 1;
+        follow(rt, words, &mut cases).map_err(|why| OrderError { line, why })?;
     }
-    match begin(rt.alloc(), &mut cases) {
-        Ok(()) => Ok(cases),
-        Err(why) => Err(OrderError { line, why }),
-    }
+    begin(&mut cases).map_err(|why| OrderError { line, why })?;
+    Ok(cases)
 }
 
 // Does to the cases so far what a line says.
-fn follow(rt: &HostRuntime, line: &[u8], cases: &mut Vec<Case>) -> Result<(), Why>
+fn follow(rt: &(impl Files + AllocGlobal), line: &[u8], cases: &mut Vec<Case>) -> Result<(), Why>
     ensures { Follows line.now (cases_in cases.old) result (cases_in cases.new) }
 {
-    let heap = rt.alloc();
-    let Some(item) = read_item(heap, line)? else {
+    let Some(item) = read_item(rt.alloc(), line)? else {
         return Ok(());
     };
     match item {
-        Item::Case(name) => add_case(heap, cases, Some(name)),
-        Item::Node(node) => append_to_last(heap, cases, Part::Nodes, &node.to_bytes()),
-        Item::Hex(part, bytes) => append_to_last(heap, cases, part, &bytes),
-        Item::File(part, path) => append_to_last(heap, cases, part, &fs::read(rt, path.as_str())?),
+        Item::Case(name) => add_case(cases, Some(name)),
+        Item::Node(node) => append_to_last(cases, Part::Nodes, &node.to_bytes()),
+        Item::Hex(part, bytes) => append_to_last(cases, part, &bytes),
+        Item::File(part, path) => append_to_last(cases, part, &fs::read(rt, path.as_str())?),
     }
 }
 
-fn add_case(heap: Global, cases: &mut Vec<Case>, name: Option<String>) -> Result<(), Why>
-    ensures { Makes result (cases_in cases.new ≡ cases_in cases.old ++ fresh (option_map string_bytes name) ∷ []) }
+fn add_case(cases: &mut Vec<Case>, name: Option<String>) -> Result<(), Why>
+    ensures { Turns (started (option_map string_bytes name)) cases.old result cases.new }
 {
+    let heap = *cases.allocator();
     cases.push(Case::new(heap, name))?;
     Ok(())
 }
 
 // An unnamed case where there is none yet.
-fn begin(heap: Global, cases: &mut Vec<Case>) -> Result<(), Why>
-    ensures { Makes result (cases_in cases.new ≡ begun (cases_in cases.old)) }
+fn begin(cases: &mut Vec<Case>) -> Result<(), Why>
+    ensures { Turns begun cases.old result cases.new }
 {
     if cases.is_empty() {
-        add_case(heap, cases, None)?;
+        add_case(cases, None)?;
     }
     Ok(())
 }
 
 // Appends to the last case, or to an unnamed one where there is none yet.
-fn append_to_last(heap: Global, cases: &mut Vec<Case>, part: Part, more: &[u8]) -> Result<(), Why>
-    ensures { Makes result (cases_in cases.new ≡ grown part more.now (cases_in cases.old)) }
+fn append_to_last(cases: &mut Vec<Case>, part: Part, more: &[u8]) -> Result<(), Why>
+    ensures { Turns (grown part more.now) cases.old result cases.new }
 {
-    begin(heap, cases)?;
-    let last = cases.len() - 1;
-    cases[last].append(part, more)
+    begin(cases)?;
+    cases.last_mut().unwrap().append(part, more)
 }

@@ -1,26 +1,14 @@
 //! Decimal numbers.
-ghost use Rattle.std.specs.Prelude.{◌≡◌, ℕ, ◌+◌, ◌*◌, ◌^◌, ◌<◌, Ok, decimal};
-ghost use Rattle.std.specs.Option.{SomeIff};
+ghost use Rattle.std.specs.Prelude.{◌≡◌, ℕ, ◌^◌, ◌<◌, Ok, decimal};
 ghost use Rattle.orders.specs.Numbers.{is_numeral, number_read};
 
 use crate::error::Why;
+use std::str;
 
 fn is_numeral(word: &[u8]) -> bool
     ensures { result ≡ is_numeral word.now }
 {
-    for byte in word {
-        if !byte.is_ascii_digit() {
-            return false;
-        }
-    }
-    !word.is_empty()
-}
-
-// The number with one more digit after its last, where that fits.
-fn with_digit(number: u64, digit: u8) -> Option<u64>
-    ensures { SomeIff result (number * 10 + digit < 2 ^ 64) (number * 10 + digit) }
-{
-    number.checked_mul(10)?.checked_add(u64::from(digit))
+    !word.is_empty() && word.iter().all(|byte| byte.is_ascii_digit())
 }
 
 /// The number that a word spells: of a number that was printed, that number.
@@ -28,15 +16,10 @@ pub fn read_number(word: &[u8]) -> Result<u64, Why>
     ensures value { result ≡ number_read word.now }
     ensures back { (n : ℕ) → n < 2 ^ 64 → word.now ≡ decimal n → result ≡ Ok n }
 {
+    // `from_str_radix` would take a sign too.
     if !is_numeral(word) {
         return Err(Why::NotNumber);
     }
-    let mut number = 0;
-    for byte in word {
-        let Some(longer) = with_digit(number, *byte - b'0') else {
-            return Err(Why::NumberTooLarge);
-        };
-        number = longer;
-    }
-    Ok(number)
+    let digits = str::from_utf8(word)?;
+    u64::from_str_radix(digits, 10).map_err(|_| Why::NumberTooLarge)
 }

@@ -1,3 +1,2 @@
 pub mod Levels
 pub mod Shown
-pub mod Sentences

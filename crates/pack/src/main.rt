@@ -3,16 +3,16 @@
 
 mod sample;
 mod show;
-mod words;
 
 use orders::{Case, OrderError, read_order};
 use sample::SAMPLE;
 use show::show_case;
 use std::process::ExitCode;
+use std::rt::{Env, Files};
 use std::{env, fmt, fs, io};
 
 /// Why the program gives no answer, or not the whole of it.
-#[derive(Drop)]
+#[derive(Debug, Drop)]
 enum Failure {
     Usage,
     Unread(io::Error),
@@ -43,44 +43,31 @@ fn main(rt: HostRuntime) -> ExitCode {
 }
 
 // The whole order is read before its first case is opened, so that a bad order prints no answer.
-fn run(rt: &HostRuntime) -> Result<(), Failure> {
-    let cases = ordered(rt)?;
-    for case in cases.iter() {
-        if let Err(error) = show_case(rt, case) {
-            return Err(Failure::Output(error));
-        }
+fn run(rt: &(impl Env + Files + AllocGlobal + Print)) -> Result<(), Failure> {
+    for case in ordered(rt)?.iter() {
+        show_case(rt, case).map_err(Failure::Output)?;
     }
     Ok(())
 }
 
 // The cases of the order that the command line names, or of the sample.
-fn ordered(rt: &HostRuntime) -> Result<Vec<Case>, Failure> {
-    let Some(path) = order_path(rt)? else {
-        return cases_of(rt, SAMPLE.as_bytes());
-    };
-    match fs::read(rt, path.as_str()) {
-        Ok(text) => cases_of(rt, &text),
-        Err(error) => Err(Failure::Unread(error)),
+fn ordered(rt: &(impl Env + Files + AllocGlobal)) -> Result<Vec<Case>, Failure> {
+    match order_path(rt)? {
+        None => read_order(rt, SAMPLE.as_bytes()).map_err(Failure::Order),
+        Some(path) => {
+            let text = fs::read(rt, path.as_str()).map_err(Failure::Unread)?;
+            read_order(rt, &text).map_err(Failure::Order)
+        }
     }
 }
 
 // The one word that the command line may have.
-fn order_path(rt: &HostRuntime) -> Result<Option<String>, Failure> {
-    let mut words = match env::args(rt) {
-        Ok(words) => words,
-        Err(error) => return Err(Failure::Unread(error)),
-    };
+fn order_path(rt: &(impl Env + AllocGlobal)) -> Result<Option<String>, Failure> {
+    let mut words = env::args(rt).map_err(Failure::Unread)?;
     let _program = words.next();
     let path = words.next();
     if words.next().is_some() {
         return Err(Failure::Usage);
     }
     Ok(path)
-}
-
-fn cases_of(rt: &HostRuntime, text: &[u8]) -> Result<Vec<Case>, Failure> {
-    match read_order(rt, text) {
-        Ok(cases) => Ok(cases),
-        Err(error) => Err(Failure::Order(error)),
-    }
 }

@@ -1,16 +1,16 @@
 //! What is printed of a case.
-ghost use Rattle.std.specs.Prelude.{◌≡◌, ◌<◌, ◌≤◌, length, Some};
+ghost use Rattle.std.specs.Prelude.{◌≡◌, Some, All};
 ghost use Rattle.layout.specs.Nodes.{depth_of};
 ghost use Rattle.layout.specs.Rows.{nulls_at};
-ghost use Rattle.layout.specs.Rules.{Filled, Is};
-ghost use Rattle.recording.specs.View.{nodes_in, bytes_in, node_of};
-ghost use Rattle.pack.specs.Levels.{Level};
+ghost use Rattle.layout.specs.Rules.{Is};
+ghost use Rattle.recording.specs.NodeRefs.{table_of, run_of, numbers_of};
+ghost use Rattle.recording.specs.Trees.{places_left};
+ghost use Rattle.pack.specs.Levels.{IsDeep};
 ghost use Rattle.pack.specs.Shown.{node_shown};
 
-use crate::words::sentence;
 use layout::{Fault, Kind, Node};
 use orders::Case;
-use recording::Recording;
+use recording::{NodeRef, Recording, Trees};
 use std::{fmt, io};
 
 /// What is printed of a node.
@@ -46,79 +46,55 @@ impl fmt::Display for NodeLine {
 }
 
 /// Opens a case, and prints its nodes or the rule that it breaks.
-pub(crate) fn show_case(rt: &HostRuntime, case: &Case) -> io::Result<()> {
+pub(crate) fn show_case(rt: &impl Print, case: &Case) -> io::Result<()> {
     show_name(rt, case)?;
-    let mut recording = Recording::empty();
-    match recording.open(&case.nodes, &case.bytes) {
-        Ok(()) => show_recording(rt, &recording),
+    match Recording::try_new(&case.nodes, &case.bytes) {
+        Ok(recording) => show_recording(rt, &recording),
         Err(fault) => show_fault(rt, fault),
     }
 }
 
-fn show_name(rt: &HostRuntime, case: &Case) -> io::Result<()> {
-    match &case.name {
-        Some(name) => println!(rt; "case {name}"),
-        None => println!(rt; "case -"),
-    }
+fn show_name(rt: &impl Print, case: &Case) -> io::Result<()> {
+    let name = case.name.as_ref().map_or("-", |name| name.as_str());
+    println!(rt; "case {name}")
 }
 
-fn show_fault(rt: &HostRuntime, fault: Fault) -> io::Result<()> {
-    let number = fault.number();
-    let column = fault.column;
-    let node = fault.node;
-    println!(rt; "open fault {number} column {column} node {node}")?;
-    println!(rt; "{}", sentence(fault.refusal))
+fn show_fault(rt: &impl Print, fault: Fault) -> io::Result<()> {
+    println!(rt; "open {fault}")?;
+    println!(rt; "{}", fault.refusal)
 }
 
-fn show_recording(rt: &HostRuntime, recording: &Recording) -> io::Result<()> {
+fn show_recording(rt: &impl Print, recording: &Recording) -> io::Result<()> {
     let nodes = recording.node_count();
     let bytes = recording.byte_count();
     println!(rt; "open ok nodes {nodes} bytes {bytes}")?;
-    show_trees(rt, recording, 0, nodes, 1)
+    show_trees(rt, recording.trees(), 1)
 }
 
-// Prints the trees that fill the nodes from `start` up to `end`.
-fn show_trees(
-    rt: &HostRuntime,
-    recording: &Recording,
-    start: usize,
-    end: usize,
-    depth: u64,
-) -> io::Result<()>
-    requires within { end ≤ length (nodes_in recording.now) }
-    requires trees { Filled (nodes_in recording.now) start end }
-    requires level { Level (nodes_in recording.now) start end depth }
+// Prints trees whose tops stand at a depth.
+fn show_trees(rt: &impl Print, trees: Trees, depth: u64) -> io::Result<()>
+    requires { All (IsDeep depth) (places_left trees) }
 {
-    let mut p = start;
-    while p < end {
-        show_node(rt, recording, p, depth)?;
-        let next = recording.end(p);
-        show_trees(rt, recording, p + 1, next, depth + 1)?;
-        p = next;
+    for node in trees {
+        println!(rt; "{}", line_of(&node, depth))?;
+        show_trees(rt, node.children(), depth + 1)?;
     }
     Ok(())
 }
 
-fn show_node(rt: &HostRuntime, recording: &Recording, i: usize, depth: u64) -> io::Result<()>
-    requires within { i < length (nodes_in recording.now) }
-    requires depth { depth ≡ depth_of (nodes_in recording.now) i }
-{
-    println!(rt; "{}", line_of(recording, i, depth))
-}
-
-// The line of node i, which stands at a depth.
-fn line_of(recording: &Recording, i: usize, depth: u64) -> NodeLine
-    requires within { i < length (nodes_in recording.now) }
-    requires depth { depth ≡ depth_of (nodes_in recording.now) i }
-    ensures index { result.index ≡ i }
-    ensures depth { result.depth ≡ depth_of (nodes_in recording.now) i }
-    ensures node { result.node ≡ node_of recording.now i }
-    ensures nulls { (k : Kind) → Is result.node k → result.nulls ≡ nulls_at k (bytes_in recording.now) result.node }
+// The line of a node, which stands at a depth.
+fn line_of(node: &NodeRef, depth: u64) -> NodeLine
+    requires { depth ≡ depth_of (table_of node.now) node.now.index }
+    ensures index { result.index ≡ node.now.index }
+    ensures depth { result.depth ≡ depth_of (table_of node.now) node.now.index }
+    ensures node { result.node ≡ numbers_of node.now }
+    ensures nulls { (k : Kind) → Is result.node k
+        → result.nulls ≡ nulls_at k (run_of node.now) result.node }
 {
     NodeLine {
-        index: i,
+        index: node.index(),
         depth,
-        node: recording.node(i),
-        nulls: recording.nulls(i),
+        node: node.node(),
+        nulls: node.nulls(),
     }
 }

@@ -1,5 +1,6 @@
--- What an opened recording tells of a node that was read from it.
-use Rattle.std.proofs.Common.{◌≡◌, ℕ, ◌+◌, ◌*◌, ◌/◌, ◌<◌, ◌≤◌, Bool, true, false, cond, ◌⊎◌, List, length, is_some, Some, Option, sym, refl, ap, ◌∙◌, subst, inl, inr, arith}
+-- What an opened recording tells of a node and of a row, whose numbers m were read from it.
+use Rattle.std.proofs.Common.{◌≡◌, ℕ, ◌+◌, ◌*◌, ◌/◌, ◌<◌, ◌≤◌, true, ◌⊎◌, List, length, is_some, Some, sym, refl, ap, ◌∙◌, subst, inl, inr, arith}
+use Rattle.std.proofs.lemmas.List.{take_all}
 use Rattle.layout.specs.declared.fault.Refusal.{Refusal}
 use Rattle.layout.specs.declared.fault.Refusal.TheVariants.{KindOrSize, Place, Offset, Key}
 use Rattle.layout.specs.declared.kind.Kind.{Kind}
@@ -7,14 +8,23 @@ use Rattle.layout.specs.declared.kind.Kind.TheVariants.{Null, Boolean, Fixed, Di
 use Rattle.layout.specs.declared.node.Node.{Node}
 use Rattle.layout.specs.declared.number.Width.{Width}
 use Rattle.layout.specs.Bits.{bytes_for}
-use Rattle.layout.specs.Kinds.{has_bitmap}
+use Rattle.layout.specs.Kinds.{offset_width, kind_of, has_bitmap}
 use Rattle.layout.specs.Nodes.{node_at, bitmap_of}
-use Rattle.layout.specs.Numbers.{wide, width_of, unle}
-use Rattle.layout.specs.Rows.{mark_at, slot_at, offset_at, key_at, nulls_in, nulls_at}
-use Rattle.layout.specs.Rules.{Is, Tabled, Placed, Rising, HasOffsets, Rule, Lies, reach}
-use Rattle.layout.proofs.Facts.{one_kind, fixed_size, key_width, key_width_is, key_small, bits_lie, fixed_lie, keys_lie, offsets_lie, bitmapped}
+use Rattle.layout.specs.Numbers.{wide, width_of, unle, unsigned_at}
+use Rattle.layout.specs.Rows.{mark_at, slot_at, offset_at, key_at}
+use Rattle.layout.specs.Rules.{Is, Tabled, Placed, HasOffsets, Rule, reach}
+use Rattle.layout.proofs.Facts.{one_kind, key_width, key_width_is, bits_lie, fixed_lie, keys_lie, offsets_lie, bitmapped}
+use Rattle.layout.proofs.Opening.{kept_rule}
 use Rattle.layout.proofs.Places.{slot_within, bit_within}
+use Rattle.layout.proofs.Table.{kind_of_lem}
 use Rattle.layout.proofs.Tests.{natural-number}
+use Rattle.recording.specs.declared.node.NodeRef.{NodeRef}
+use Rattle.recording.specs.declared.row.Row.{Row}
+use Rattle.recording.specs.NodeRefs.{table_of, run_of, numbers_of, IsOffset}
+
+-- every rule holds at it
+pub rules_at : (n : NodeRef) (q : Refusal) → Rule q (table_of n) (run_of n) n.index
+rules_at n = kept_rule (table_of n) (run_of n) n.recording.opened n.index n.stands
 
 -- a slot that lies within the bytes, where it starts, and that it ends there
 pub record There (bs : List ℕ) (n : Node) (r w : ℕ) : Type 0 where
@@ -22,89 +32,114 @@ pub record There (bs : List ℕ) (n : Node) (r w : ℕ) : Type 0 where
   pub place : n.slots + (n.from + r) * w ≤ 4294967295
   pub ends : n.slots + (n.from + r) * w + w ≤ length bs
 
-module _ (ns : List Node) (bs : List ℕ) (small : length bs ≤ 4294967295) (i : ℕ) (n : Node) (same : n ≡ node_at ns i) (rules : (q : Refusal) → Rule q ns bs i) where
-  tabled : Tabled n
-  tabled = subst (λ (n : Node). Tabled n) (sym same) (rules KindOrSize)
+-- a node has one width of offsets
+pub one_width : (n : Node) (v w : Width) → HasOffsets n v → HasOffsets n w → v ≡ w
+one_width n v w a b =
+    let e : Some v ≡ Some w = sym a.2 ∙ ap offset_width (one_kind n a.0 b.0 a.1 b.1) ∙ b.2 in
+    cc
 
-  placed : Placed bs n
-  placed = subst (λ (n : Node). Placed bs n) (sym same) (rules Place)
+module _ (n : NodeRef) (m : Node) (same : m ≡ numbers_of n) where
+  tabled : Tabled m
+  tabled = subst Tabled (sym same) (rules_at n KindOrSize)
 
-  pub few : n.from + n.rows ≤ 2147483647
-  few = tabled.rows
+  placed : Placed (run_of n) m
+  placed = subst (Placed (run_of n)) (sym same) (rules_at n Place)
 
-  of : (k : Kind) → Is (node_at ns i) k → Is n k
-  of k is = subst (λ (n : Node). Is n k) (sym same) is
+  small : length (run_of n) ≤ 4294967295
+  small = n.recording.opened.1
 
-  there : (r y w : ℕ) → n.from + r < y → n.from + r ≤ 2147483647 → n.slots + y * w ≤ length bs → There bs n r w
+  pub few : (a c : ℕ) → a + c ≤ (numbers_of n).rows → m.from + a + c ≤ 2147483647
+  few a c h = omega (arith, tabled.rows, ap (λ (m : Node). m.rows) same)
+
+  of : (k : Kind) → Is (numbers_of n) k → Is m k
+  of k is = subst (λ (m : Node). Is m k) (sym same) is
+
+  -- ---- the kind
+
+  pub kind_some : is_some (kind_of m.kind) ≡ true
+  kind_some = ap is_some (kind_of_lem m.kind tabled.kind tabled.is)
+
+  -- ---- slots
+
+  there : (r y w : ℕ) → m.from + r < y → m.from + r ≤ 2147483647 → m.slots + y * w ≤ length (run_of n) → There (run_of n) m r w
   there r y w l f h =
-      let e = slot_within n.slots (n.from + r) y w w (length bs) refl l h in
-      record { row = f; place = omega arith; ends = e }
+      let e = slot_within m.slots (m.from + r) y w w (length (run_of n)) refl l h in
+      record { row = f; place = omega (arith, small); ends = e }
 
-  -- ---- bits
-
-  pub bit_there : (r : ℕ) → r < n.rows → Is (node_at ns i) Boolean → n.slots + (n.from + r) / 8 < length bs
-  bit_there r l is = bit_within n.slots (n.from + r) (n.from + n.rows) (length bs) (omega arith) (bits_lie bs n placed (of Boolean is))
-
-  -- the bitmap of any kind that may have one
-  pub bitmap_lies_lem : (k : Kind) (place : ℕ) → Is (node_at ns i) k → true ≡ has_bitmap k → Some place ≡ bitmap_of n → Lies bs place (bytes_for (n.from + n.rows))
-  bitmap_lies_lem k place is b e = placed.bitmap k place (of k is) (sym b) (sym e)
-
-  pub mark_there : (r place : ℕ) → r < n.rows → (Is (node_at ns i) Null → ⊥) → Some place ≡ bitmap_of n → place + (n.from + r) / 8 < length bs
-  mark_there r place l ne e =
-      bit_within place (n.from + r) (n.from + n.rows) (length bs) (omega arith)
-      (placed.bitmap tabled.kind place tabled.is (bitmapped n tabled (λ is. ne (subst (λ (n : Node). Is n Null) same is))) (sym e))
-
-  -- ---- values and keys
-
-  pub slot_there : (r : ℕ) → r < n.rows → Is (node_at ns i) Fixed ⊎ Is (node_at ns i) Dictionary → There bs n r n.size
-  slot_there r l (inl is) = there r (n.from + n.rows) n.size (omega arith) (omega (arith, few)) (fixed_lie bs n placed (of Fixed is))
-  slot_there r l (inr is) = there r (n.from + n.rows) n.size (omega arith) (omega (arith, few)) (keys_lie bs n placed (of Dictionary is))
-
-  pub slot_small : Is (node_at ns i) Fixed ⊎ Is (node_at ns i) Dictionary → n.size ≤ 256
-  slot_small (inl is) = (fixed_size n tabled (of Fixed is)).1
-  slot_small (inr is) = omega (arith, key_small n tabled (of Dictionary is))
-
-  pub width_there : Is (node_at ns i) Dictionary → is_some (width_of n.size) ≡ true
-  width_there is = key_width n tabled (of Dictionary is)
-
-  pub width_size : Is (node_at ns i) Dictionary → (w : Width) → width_of n.size ≡ Some w → n.size ≡ wide w
-  width_size is w e = key_width_is n tabled (of Dictionary is) w e
-
-  -- a valid row's key names a row
-  pub key_below : (r : ℕ) → r < n.rows → Is (node_at ns i) Dictionary → mark_at bs (node_at ns i) r ≡ true → unle (key_at bs (node_at ns i) r) < (node_at ns (i + 1)).rows
-  key_below r l is m = (rules Key is).within r (subst (λ (n : Node). r < n.rows) same l) m
+  pub offset_there : (r : ℕ) (w : Width) → r ≤ (numbers_of n).rows → HasOffsets (numbers_of n) w → There (run_of n) m r (wide w)
+  offset_there r w l has =
+      let f = few r 0 (omega arith) in
+      there r (m.from + m.rows + 1) (wide w) (omega (arith, ap (λ (m : Node). m.rows) same)) (omega arith) (offsets_lie (run_of n) m placed has.0 w (of has.0 has.1) has.2)
 
   -- ---- offsets
 
-  pub offset_there : (r : ℕ) (w : Width) → r ≤ n.rows → HasOffsets (node_at ns i) w → There bs n r (wide w)
-  offset_there r w l has =
-      there r (n.from + n.rows + 1) (wide w) (omega arith) (omega (arith, few)) (offsets_lie bs n placed has.0 w (of has.0 has.1) has.2)
-
-  rising : (w : Width) → (has : HasOffsets (node_at ns i) w) → Rising bs (wide w) (node_at ns i) (reach has.0 ns i)
-  rising w has = rules Offset has.0 w has.1 has.2
-
-  -- it is not below 0, so it is the number that was read
-  pub offset_is : (r : ℕ) (w : Width) (x : ℕ) → r ≤ n.rows → 0 < n.rows → HasOffsets (node_at ns i) w → x ≡ unle (slot_at bs (wide w) n r) → x ≡ offset_at bs (wide w) (node_at ns i) r
-  offset_is r w x l some has e =
-      let m = node_at ns i in
-      let nat = (rising w has).naturals (subst (λ (n : Node). 0 < n.rows) same some) r (subst (λ (n : Node). r ≤ n.rows) same l) in
-      e ∙ ap (λ (n : Node). unle (slot_at bs (wide w) n r)) same ∙ sym (natural-number (slot_at bs (wide w) m r) nat)
-
-  pub offset_reach : (r : ℕ) (w : Width) → r ≤ n.rows → 0 < n.rows → HasOffsets (node_at ns i) w → (k : Kind) → Is (node_at ns i) k → offset_at bs (wide w) (node_at ns i) r ≤ reach k ns i
-  offset_reach r w l some has k is =
-      let e = one_kind (node_at ns i) has.0 k has.1 is in
-      subst (λ (k : Kind). offset_at bs (wide w) (node_at ns i) r ≤ reach k ns i) e
-      ((rising w has).within (subst (λ (n : Node). 0 < n.rows) same some) r (subst (λ (n : Node). r ≤ n.rows) same l))
+  -- it is not below 0, so it is the number that was read; and a node has one width
+  pub offset_read : (r : ℕ) (w : Width) (x : ℕ) → r ≤ (numbers_of n).rows → 0 < (numbers_of n).rows → HasOffsets (numbers_of n) w → x ≡ unle (slot_at (run_of n) (wide w) m r) → IsOffset n r x
+  offset_read r w x l some has e =
+      let rising = rules_at n Offset has.0 w has.1 has.2 in
+      let is = e ∙ ap (λ (m : Node). unle (slot_at (run_of n) (wide w) m r)) same ∙ sym (natural-number (slot_at (run_of n) (wide w) (numbers_of n) r) (rising.naturals some r l)) in
+      let most : x ≤ reach has.0 (table_of n) n.index = omega (arith, is, rising.within some r l) in
+      record {
+        value = λ v h. subst (λ (w : Width). x ≡ offset_at (run_of n) (wide w) (numbers_of n) r) (one_width (numbers_of n) w v has h) is;
+        bound = λ k h. subst (λ (k : Kind). x ≤ reach k (table_of n) n.index) (one_kind (numbers_of n) has.0 k has.1 h) most;
+      }
 
   -- ---- nulls
 
-  nulls_by : (k l : Kind) (x : ℕ) → Is (node_at ns i) k → Is (node_at ns i) l → x ≡ nulls_at k bs n → x ≡ nulls_at l bs (node_at ns i)
-  nulls_by k l x a b e = e ∙ ap (λ (n : Node). nulls_at k bs n) same ∙ ap (λ (k : Kind). nulls_at k bs (node_at ns i)) (one_kind (node_at ns i) k l a b)
+  pub bitmap_there : (k : Kind) (place a c : ℕ) → Is (numbers_of n) k → true ≡ has_bitmap k → Some place ≡ bitmap_of m → a + c ≤ (numbers_of n).rows → place + bytes_for (m.from + a + c) ≤ length (run_of n)
+  bitmap_there k place a c is b e h =
+      let l = placed.bitmap k place (of k is) (sym b) (sym e) in
+      omega (arith, l, ap (λ (m : Node). m.rows) same)
 
-  pub nulls_all : (k : Kind) → Is (node_at ns i) k → false ≡ has_bitmap k → (l : Kind) → Is (node_at ns i) l → n.rows ≡ nulls_at l bs (node_at ns i)
-  nulls_all k is f l js = nulls_by k l n.rows is js (ap (λ (b : Bool). cond b (nulls_in bs (bitmap_of n) n.from n.rows) n.rows) f)
+-- ---- a row
 
-  pub nulls_some : (k : Kind) (x : ℕ) (o : Option ℕ) → Is (node_at ns i) k → true ≡ has_bitmap k → o ≡ bitmap_of n → x ≡ nulls_in bs o n.from n.rows → (l : Kind) → Is (node_at ns i) l → x ≡ nulls_at l bs (node_at ns i)
-  nulls_some k x o is t e h l js =
-      nulls_by k l x is js
-      (h ∙ ap (λ (o : Option ℕ). nulls_in bs o n.from n.rows) e ∙ ap (λ (b : Bool). cond b (nulls_in bs (bitmap_of n) n.from n.rows) n.rows) t)
+module _ (r : Row) (m : Node) (same : m ≡ numbers_of r.node) where
+  within : r.index < m.rows
+  within = omega (arith, r.within, ap (λ (m : Node). m.rows) same)
+
+  pub row_few : m.from + r.index ≤ 2147483647
+  row_few = omega (arith, few r.node m same r.index 1 (omega (arith, r.within)))
+
+  pub bit_there : Is (numbers_of r.node) Boolean → m.slots + (m.from + r.index) / 8 < length (run_of r.node)
+  bit_there is =
+      bit_within m.slots (m.from + r.index) (m.from + m.rows) (length (run_of r.node)) (omega (arith, within)) (bits_lie (run_of r.node) m (placed r.node m same) (of r.node m same Boolean is))
+
+  -- in the bitmap of any kind that may have one
+  pub mark_there : (place : ℕ) → (Is (numbers_of r.node) Null → ⊥) → Some place ≡ bitmap_of m → place + (m.from + r.index) / 8 < length (run_of r.node)
+  mark_there place ne e =
+      let t = tabled r.node m same in
+      bit_within place (m.from + r.index) (m.from + m.rows) (length (run_of r.node)) (omega (arith, within))
+      ((placed r.node m same).bitmap t.kind place t.is (bitmapped m t (λ is. ne (subst (λ (m : Node). Is m Null) same is))) (sym e))
+
+  -- ---- values and keys
+
+  slot_by : m.slots + (m.from + m.rows) * m.size ≤ length (run_of r.node) → There (run_of r.node) m r.index m.size
+  slot_by h = there r.node m same r.index (m.from + m.rows) m.size (omega (arith, within)) row_few h
+
+  pub slot_there : Is (numbers_of r.node) Fixed ⊎ Is (numbers_of r.node) Dictionary → There (run_of r.node) m r.index m.size
+  slot_there (inl is) = slot_by (fixed_lie (run_of r.node) m (placed r.node m same) (of r.node m same Fixed is))
+  slot_there (inr is) = slot_by (keys_lie (run_of r.node) m (placed r.node m same) (of r.node m same Dictionary is))
+
+  -- it ends within the bytes
+  pub slot_ends : Is (numbers_of r.node) Fixed ⊎ Is (numbers_of r.node) Dictionary → (start : ℕ) → start ≡ m.slots + (m.from + r.index) * m.size → start + m.size ≤ length (run_of r.node)
+  slot_ends is start e = omega (arith, (slot_there is).ends)
+
+-- the slots of a Dictionary are as long as a width
+pub key_width_some : (r : Row) → Is (numbers_of r.node) Dictionary → is_some (width_of (numbers_of r.node).size) ≡ true
+key_width_some r is = key_width (numbers_of r.node) (rules_at r.node KindOrSize) is
+
+pub key_wide : (r : Row) → Is (numbers_of r.node) Dictionary → (bs : List ℕ) (w : Width) → length bs ≡ (numbers_of r.node).size → width_of (length bs) ≡ Some w → length bs ≡ wide w
+key_wide r is bs w len e = len ∙ key_width_is (numbers_of r.node) (rules_at r.node KindOrSize) is w (ap width_of (sym len) ∙ e)
+
+-- the number that bytes spell, read with their width
+pub read_whole : (bs : List ℕ) (w : Width) → length bs ≡ wide w → unsigned_at bs 0 w ≡ unle bs
+read_whole bs w e = ap unle (take_all (wide w) bs (omega arith))
+
+-- a valid row's key names a row
+pub key_below : (r : Row) → Is (numbers_of r.node) Dictionary → mark_at (run_of r.node) (numbers_of r.node) r.index ≡ true
+    → unle (key_at (run_of r.node) (numbers_of r.node) r.index) < (node_at (table_of r.node) (r.node.index + 1)).rows
+key_below r is valid = (rules_at r.node Key is).within r.index r.within valid
+
+-- the row after it is one of those that have an offset
+pub row_next : (r : Row) → r.index + 1 ≤ 2147483647
+row_next r = omega (arith, r.within, (rules_at r.node KindOrSize).rows)

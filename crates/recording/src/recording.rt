@@ -1,14 +1,186 @@
 ghost use Rattle.layout.specs.Nodes.{nodes_of};
 ghost use Rattle.layout.specs.Opening.{Kept};
 
-mod readers;
-mod windows;
+use crate::node::NodeRef;
+use crate::trees::Trees;
+use crate::window::Window;
+use layout::{Fault, MOST_ROWS, NODE_BYTES, Refusal, Width, count_zeros, read, read_bit};
+use opening::judge;
 
 /// A table of nodes and a run of bytes that keep every rule of an opening. It owns neither, and copies nothing.
 #[repr(C)]
-#[derive(Drop)]
+#[derive(Clone, Copy)]
 pub struct Recording<'a> {
-    nodes: &'a [u8],
-    bytes: &'a [u8],
+    pub(crate) nodes: &'a [u8],
+    pub(crate) bytes: &'a [u8],
     ghost opened: { Kept (nodes_of nodes.now) bytes.now },
+}
+
+impl<'a> Recording<'a> {
+    ghost use Rattle.std.specs.Prelude.{◌≡◌, ◌+◌, ◌/◌, ◌^◌, ◌<◌, ◌≤◌, ◌↔◌, [], length, drop};
+    ghost use Rattle.std.specs.Prelude.{IsSome, IfSome, Ok, Err, MatchResult, OnOk, OnErr};
+    ghost use Rattle.layout.specs.Bits.{bit_at, bytes_for, zeros};
+    ghost use Rattle.layout.specs.Columns.{ColumnsAnswer};
+    ghost use Rattle.layout.specs.Lists.{rows};
+    ghost use Rattle.layout.specs.Messages.{own_field};
+    ghost use Rattle.layout.specs.Numbers.{wide, unsigned_at};
+    ghost use Rattle.layout.specs.Opening.{Answers};
+    ghost use Rattle.layout.specs.Rules.{Filled};
+    ghost use Rattle.layout.specs.Windows.{Inside, shown_in};
+    ghost use Rattle.recording.specs.View.{nodes_in, bytes_in};
+    ghost use Rattle.recording.specs.NodeRefs.{IsNode};
+    ghost use Rattle.recording.specs.Places.{trees_of};
+    ghost use Rattle.recording.specs.Trees.{places_left};
+    ghost use Rattle.recording.specs.Windows.{window_in, Made};
+
+    /// A recording of no nodes and no bytes, to open into.
+    pub fn empty() -> Recording<'a>
+        ensures { (nodes_in result ≡ []) × (bytes_in result ≡ []) }
+    {
+        Recording {
+            nodes: &[],
+            bytes: &[],
+        }
+    }
+
+    /// The recording of node bytes and bytes, or the rule that they break first.
+    pub fn try_new(nodes: &'a [u8], bytes: &'a [u8]) -> Result<Recording<'a>, Fault>
+        ensures { MatchResult result
+            (λ r. Answers nodes.now bytes.now (Ok tt) × (r.nodes.now ≡ nodes.now) × (bytes_in r ≡ bytes.now))
+            (λ f. Answers nodes.now bytes.now (Err f)) }
+    {
+        judge(nodes, bytes)?;
+        Ok(Recording { nodes, bytes })
+    }
+
+    /// Opens node bytes and bytes, or says which rule they break first; a refusal leaves the recording as it was.
+    pub fn open(&mut self, nodes: &'a [u8], bytes: &'a [u8]) -> Result<(), Fault>
+        ensures answer { Answers nodes.now bytes.now result }
+        ensures held { OnOk result
+            ((self.new.nodes.now ≡ nodes.now) × (bytes_in self.new ≡ bytes.now)) }
+        ensures kept { OnErr result (self.new ≡ self.old) }
+    {
+        *self = Recording::try_new(nodes, bytes)?;
+        Ok(())
+    }
+
+    /// How many nodes it has. The trees of the top nodes fill them.
+    pub fn node_count(&self) -> usize
+        ensures value { result ≡ length (nodes_in self.now) }
+        ensures bound { result ≤ 65535 }
+        ensures trees { Filled (nodes_in self.now) 0 result }
+    {
+        self.nodes.len() / NODE_BYTES
+    }
+
+    pub fn byte_count(&self) -> usize
+        ensures { result ≡ length (bytes_in self.now) }
+    {
+        self.bytes.len()
+    }
+
+    /// Node i.
+    pub fn at(&self, i: usize) -> NodeRef<'a>
+        requires { i < length (nodes_in self.now) }
+        ensures { IsNode self.now i result }
+    {
+        NodeRef {
+            recording: *self,
+            index: i,
+        }
+    }
+
+    /// Node i, if the recording has it.
+    pub fn get(&self, i: usize) -> Option<NodeRef<'a>>
+        ensures there { IsSome result ↔ (i < length (nodes_in self.now)) }
+        ensures value { IfSome result (IsNode self.now i) }
+    {
+        if i < self.node_count() {
+            Some(self.at(i))
+        } else {
+            None
+        }
+    }
+
+    /// The top nodes.
+    pub fn trees(&self) -> Trees<'a>
+        ensures { places_left result ≡ trees_of self.now 0 }
+    {
+        self.trees_from(0)
+    }
+
+    /// The nodes side by side from node `first` on, each right after the tree of the one before it;
+    /// none where `first` is past the last node.
+    pub fn trees_from(&self, first: usize) -> Trees<'a>
+        ensures { places_left result ≡ trees_of self.now first }
+    {
+        Trees {
+            recording: *self,
+            next: first,
+            end: self.node_count(),
+        }
+    }
+
+    /// The window of so many rows of a node, from a row on, if the recording has them.
+    pub fn window(&self, node: usize, first: u64, rows: u64) -> Option<Window>
+        ensures { Made self.now node first rows result }
+    {
+        let all = self.get(node)?.node().rows;
+        if first > all || rows > all - first {
+            return None;
+        }
+        Some(Window { node, first, rows })
+    }
+
+    /// Whether these are columns of a batch: nodes side by side with these rows. Too many rows are refused first, then
+    /// the first column that is no node or has other rows.
+    pub fn check_columns(&self, first: usize, columns: u64, rows: u64) -> Result<(), Fault>
+        ensures { ColumnsAnswer (nodes_in self.now) first columns rows result }
+    {
+        if rows > MOST_ROWS {
+            return Err(Fault::from(Refusal::Rows));
+        }
+        let mut nodes = self.trees_from(first);
+        for column in 0..columns {
+            match nodes.next() {
+                Some(node) if node.node().rows == rows => {}
+                _ => return Err(Fault::new(Refusal::Column, column, 0)),
+            }
+        }
+        Ok(())
+    }
+
+    /// How many rows of a window are null: every row of a Null.
+    pub fn null_count(&self, w: Window) -> u64
+        requires { Inside (window_in self.now w) }
+        ensures { result ≡ (own_field (shown_in (window_in self.now w))).nulls }
+    {
+        self.at(w.node).nulls_between(w.first, w.rows)
+    }
+
+    // The number at a place of the bytes.
+    pub(crate) fn number_at(&self, place: usize, width: Width) -> u64
+        requires { place + wide width ≤ length (bytes_in self.now) }
+        ensures { result ≡ unsigned_at (bytes_in self.now) place width }
+    {
+        read(&self.bytes[place..], width)
+    }
+
+    // Bit i of the bytes from a place on.
+    pub(crate) fn bit_at(&self, place: u64, i: u64) -> bool
+        requires { place + i / 8 < length (bytes_in self.now) }
+        ensures { result ≡ bit_at (drop place (bytes_in self.now)) i }
+    {
+        read_bit(&self.bytes[place as usize..], i)
+    }
+
+    // How many of n bits, from bit `first` of the bytes from a place on, are 0.
+    pub(crate) fn zeros_at(&self, place: u64, first: u64, n: u64) -> u64
+        requires few { first + n < 2 ^ 64 }
+        requires within { place + bytes_for (first + n) ≤ length (bytes_in self.now) }
+        ensures { result
+            ≡ zeros (rows n (λ i. bit_at (drop place (bytes_in self.now)) (first + i))) }
+    {
+        count_zeros(&self.bytes[place as usize..], first, n)
+    }
 }

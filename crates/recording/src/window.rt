@@ -1,7 +1,7 @@
 ghost use Rattle.std.specs.Prelude.{◌≡◌};
 
 /// So many rows of a node, from a row on. Only a recording makes one, inside the rows that the node has.
-#[derive(Clone, Copy)]
+#[derive(Clone, Copy, Debug, PartialEq, Eq)]
 pub struct Window {
     pub(crate) node: usize,
     pub(crate) first: u64,
@@ -30,7 +30,7 @@ impl Window {
 }
 
 /// What a row has: its value where that is a bit or bytes, else where the values that it is made of stand.
-#[derive(Clone, Copy)]
+#[derive(Clone, Copy, Debug, PartialEq, Eq)]
 pub enum RowValue<'a> {
     Null,
     Bit(bool),

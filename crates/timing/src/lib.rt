@@ -13,9 +13,8 @@ use recording::Recording;
 pub extern "C" fn timing_open<'a>(nodes: &'a [u8], bytes: &'a [u8]) -> u32
     ensures { Told nodes.now bytes.now result }
 {
-    let mut recording = Recording::empty();
-    match recording.open(nodes, bytes) {
-        Ok(()) => 0,
+    match Recording::try_new(nodes, bytes) {
+        Ok(_) => 0,
         Err(fault) => fault.number(),
     }
 }
@@ -27,7 +26,7 @@ pub extern "C" fn timing_count_zeros(bytes: &[u8], first: u32, n: u32) -> u64
 {
     let (first, n) = (u64::from(first), u64::from(n));
     if bytes_for(first + n) <= bytes.len() as u64 {
-        count_zeros(bytes, 0, first, n)
+        count_zeros(bytes, first, n)
     } else {
         0
     }

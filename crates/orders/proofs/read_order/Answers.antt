@@ -1,37 +1,32 @@
-use Rattle.std.proofs.Common.{◌+◌, map, length, sym, refl, ap, subst, inl, arith, true-eqb, false-eqb}
-use Rattle.orders.specs.Orders.{spelled, cases_in, Followed, BadLine}
-use Rattle.orders.proofs.Lines.{Sofar, none_yet, fits, one_more, first_bad, all_done, after_less}
+use Rattle.std.proofs.Common.{◌≡◌, ◌+◌, Ok, Err, MatchResult, length, ap, subst, sym, ◌∙◌, inl, arith, rules}
+use Rattle.std.specs.Iterator.Adapters.{enumerate_count, enumerate_source}
+use Rattle.std.proofs.lemmas.Result.{err_from_is_err_and}
+use Rattle.orders.specs.declared.text.Lines.{Lines}
+use Rattle.orders.specs.Texts.{lines_in}
+use Rattle.orders.specs.Orders.{cases_in}
+use Rattle.orders.proofs.Lines.{Sofar, one_more, first_bad, lines_le, followed_ok, followed_err}
 use Rattle.orders.proofs.read_order.Goals as goal
 
-pub loop-rest-init : goal.loop-rest-init
-loop-rest-init c = subst (Sofar c.args.text.now c.args.text.now 0) (sym (ap (map spelled) c.new-cases.ensures.items)) (none_yet c.args.text.now)
+pub loop-before-init-derived : goal.loop-before-init-derived
+loop-before-init-derived g c =
+    let same = c.into_iter-before-iterator.ensures.into_iter_gives in
+    let none = ap enumerate_count same ∙ c.enumerate-before-items.ensures.count in
+    let all = ap (λ (s : Lines). length (lines_in s.0.now)) (ap enumerate_source same ∙ c.enumerate-before-items.ensures.source) in
+    ((tt, tt, inl (omega (arith, none, all, lines_le c.args.text.now, c.well_formed))), tt)
 
-pub overflow_add-line : goal.overflow_add-line
-overflow_add-line c =
-    let some = false-eqb (length c.loop-rest.rest.now) 0 c.loop-rest-test.ensures in
-    omega (arith, fits c.loop-rest.invariant (omega arith), c.well_formed)
+pub loop-before-preserved : goal.loop-before-preserved
+loop-before-preserved g c =
+    let steps = c.in-Some.ensures.steps in
+    let line = c.in-Some.words.now in
+    let f = followed_ok line _ _ c.follow.result (sym c.in_ok-map_err.ensures.variant) c.follow.ensures in
+    let more = one_more c.args.text.now c.loop-before.invariant line _ steps.0 _ f in
+    subst (λ n. Sofar (lines_in c.args.text.now) (lines_in (enumerate_source c.next.new.self).0.now) n (cases_in c.follow.new.cases)) (sym steps.2) more
 
-pub returns-in-Err : goal.returns-in-Err
-returns-in-Err c =
-    let rest = c.loop-rest.rest.now in
-    let some = false-eqb (length rest) 0 c.loop-rest-test.ensures in
-    inl (first_bad c.loop-rest.invariant (omega arith) _ refl (subst (λ line. BadLine line c.in-Err.why) c.split_line.ensures.line c.in-Err.ensures))
-
-pub loop-rest-smaller : goal.loop-rest-smaller
-loop-rest-smaller c =
-    let rest = c.loop-rest.rest.now in
-    let some = false-eqb (length rest) 0 c.loop-rest-test.ensures in
-    omega (arith, ap length c.split_line.ensures.rest, after_less rest (omega arith))
-
-pub loop-rest-preserved : goal.loop-rest-preserved
-loop-rest-preserved c =
-    let rest = c.loop-rest.rest.now in
-    let some = false-eqb (length rest) 0 c.loop-rest-test.ensures in
-    let done = subst (λ line. Followed line (cases_in c.loop-rest.cases) (cases_in c.follow.new.cases)) c.split_line.ensures.line c.in_default.ensures in
-    subst (λ r. Sofar c.args.text.now r (c.loop-rest.line + 1) (cases_in c.follow.new.cases)) (sym c.split_line.ensures.rest)
-    (one_more c.loop-rest.invariant (omega arith) _ done)
-
-pub returns-in-Ok : goal.returns-in-Ok
-returns-in-Ok c =
-    let none = true-eqb (length c.loop-rest.rest.now) 0 c.loop-rest-test.ensures in
-    (cases_in c.loop-rest.cases, all_done c.loop-rest.invariant none, c.in-Ok.ensures)
+pub returns-in_err-map_err : goal.returns-in_err-map_err
+returns-in_err-map_err g c =
+    let steps = c.in-Some.ensures.steps in
+    let line = c.in-Some.words.now in
+    let told : MatchResult c.follow.result (λ u. c.map_err.result ≡ Ok u) (λ why. c.map_err.result ≡ Err (record { line = c.in-Some.before + 1; why = why })) = search rules in
+    let bad = followed_err line _ _ (c.in-Some.before + 1) c.follow.result c.map_err.result told _ c.in_err-map_err.was c.follow.ensures in
+    let p = err_from_is_err_and c.from_residual.result c.from_residual.ensures.1 in
+    rw (p.1, p.2) (inl (first_bad c.args.text.now c.loop-before.invariant line _ steps.0 _ (bad.0 ∙ ap (λ n. n + 1) steps.1) bad.1))

@@ -1,10 +1,9 @@
-use Rattle.std.proofs.Common.{length}
+use Rattle.std.specs.Iterator.Adapters.{enumerate_count, enumerate_source}
+use Rattle.orders.specs.Texts.{lines_in}
 use Rattle.orders.specs.Orders.{cases_in}
 use Rattle.orders.proofs.Lines.{Sofar}
 use Rattle.orders.proofs.read_order.Given as goal
 
-abbrev pub invariant-loop-rest : goal.invariant-loop-rest
-invariant-loop-rest l = Sofar l.text l.rest l.line (cases_in l.cases)
-
-abbrev pub decreases-loop-rest : goal.decreases-loop-rest
-decreases-loop-rest l = length l.rest
+abbrev pub invariant-loop-before : goal.invariant-loop-before
+invariant-loop-before g l =
+    Sofar (lines_in l.text) (lines_in (enumerate_source l.before-iterator).0.now) (enumerate_count l.before-iterator) (cases_in l.cases)

@@ -6,4 +6,4 @@ pub returns : goal.returns
 returns c =
     let word = c.args.word.now in
     let x = c.from_le_bytes.ensures ∙ sym (unle_8 word c.told-word) in
-    record { count = c.count_zeros.ensures.value ∙ zeros_word word c.from_le_bytes.result c.told-word c.fits-word x; most = c.count_zeros.ensures.bound }
+    c.count_zeros.ensures.value ∙ zeros_word word c.from_le_bytes.result c.told-word c.fits-word x

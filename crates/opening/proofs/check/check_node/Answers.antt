@@ -1,60 +1,39 @@
-use Rattle.std.proofs.Common.{sym, ◌∙◌, inl, inr, arith}
+use Rattle.std.proofs.Common.{sym, ◌∙◌, rules}
 use Rattle.layout.specs.Nodes.{nodes_of}
-use Rattle.opening.proofs.Order.{no_kind, breaks_table, breaks_shape, breaks_depth, breaks_places, ready, breaks_offsets, breaks_keys, none_broken}
+use Rattle.opening.proofs.Order.{breaks_table, breaks_nesting, breaks_place, breaks_offset, verdict_err, verdict_last, verdict_of, refused}
 use Rattle.opening.proofs.check.check_node.Goals as goal
 
-pub returns-in_default : goal.returns-in_default
-returns-in_default c = no_kind (nodes_of c.args.nodes.now) c.args.bytes.now c.args.i c.at-node.result c.at-node.ensures c.in_default.ensures
+pub returns-in_err-subject : goal.returns-in_err-subject
+returns-in_err-subject c =
+    let e = c.in_err-subject.ensures in
+    let i = c.args.i in
+    verdict_err (nodes_of c.args.nodes.now) c.args.bytes.now i c.from_residual.result c.in_err-subject.field-0.0 _ (search rules) e.0
+    (breaks_table (nodes_of c.args.nodes.now) c.args.bytes.now i e.1)
 
-pub returns-then-not-keeps_table : goal.returns-then-not-keeps_table
-returns-then-not-keeps_table c =
-    breaks_table (nodes_of c.args.nodes.now) c.args.bytes.now c.args.i c.at-node.result c.in-Some.kind c.at-node.ensures c.in-Some.ensures c.if-not-keeps_table.ensures
+pub returns-in_err-ensure : goal.returns-in_err-ensure
+returns-in_err-ensure c =
+    let s = c.in_ok-subject.subject in
+    let e = c.in_err-ensure.ensures in
+    refused s c.args.nodes.now c.args.bytes.now c.args.i c.in_ok-subject.ensures c.from_residual-in_err-ensure.result c.in_err-ensure.field-0.0 _ (search rules) e.0
+    (breaks_nesting s (sym c.keeps_nesting.ensures ∙ e.1))
 
-pub returns-then-not-keeps_nesting : goal.returns-then-not-keeps_nesting
-returns-then-not-keeps_nesting c =
-    elim c.then-not-keeps_nesting.either [
-      | inl f ↦
-          breaks_shape (nodes_of c.args.nodes.now) c.args.bytes.now c.args.i c.at-node.result c.in-Some.kind c.at-node.ensures c.in-Some.ensures
-          c.if-not-keeps_table.ensures (sym c.keeps_nesting.ensures ∙ f)
-      | inr d ↦
-          breaks_depth (nodes_of c.args.nodes.now) c.args.bytes.now c.args.i c.at-node.result c.in-Some.kind c.at-node.ensures c.in-Some.ensures
-          c.if-not-keeps_table.ensures (omega (arith, d.1, c.requires.deep))
-    ]
+pub returns-in_err-ensure-2 : goal.returns-in_err-ensure-2
+returns-in_err-ensure-2 c =
+    let s = c.in_ok-subject.subject in
+    let e = c.in_err-ensure-2.ensures in
+    refused s c.args.nodes.now c.args.bytes.now c.args.i c.in_ok-subject.ensures c.from_residual-in_err-ensure-2.result c.in_err-ensure-2.field-0.0 _ (search rules) e.0
+    (breaks_place s (sym c.keeps_nesting.ensures ∙ c.in_ok-ensure.ensures) (sym c.keeps_places.ensures ∙ e.1))
 
-pub returns-then-not-keeps_places : goal.returns-then-not-keeps_places
-returns-then-not-keeps_places c =
-    breaks_places (nodes_of c.args.nodes.now) c.args.bytes.now c.args.i c.at-node.result c.in-Some.kind c.at-node.ensures c.in-Some.ensures
-    c.if-not-keeps_table.ensures (sym c.if-not-keeps_nesting.ensures) (omega (arith, c.requires.deep)) c.if-not-keeps_places.ensures
-
-pub keeps_offsets-requires : goal.keeps_offsets-requires
-keeps_offsets-requires c =
-    record {
-      stands = c.requires.stands;
-      ready = ready (nodes_of c.args.nodes.now) c.args.bytes.now c.args.i c.at-node.result c.in-Some.kind c.at-node.ensures c.in-Some.ensures
-          c.if-not-keeps_table.ensures (sym c.if-not-keeps_nesting.ensures) (omega (arith, c.requires.deep)) c.if-not-keeps_places.ensures;
-    }
-
-pub returns-then-not-keeps_offsets : goal.returns-then-not-keeps_offsets
-returns-then-not-keeps_offsets c =
-    breaks_offsets (nodes_of c.args.nodes.now) c.args.bytes.now c.args.i c.at-node.result c.in-Some.kind c.at-node.ensures c.in-Some.ensures
-    c.if-not-keeps_table.ensures (sym c.if-not-keeps_nesting.ensures) (omega (arith, c.requires.deep)) c.if-not-keeps_places.ensures c.if-not-keeps_offsets.ensures
-
-pub keeps_keys-requires : goal.keeps_keys-requires
-keeps_keys-requires c =
-    record {
-      stands = c.requires.stands;
-      ready = ready (nodes_of c.args.nodes.now) c.args.bytes.now c.args.i c.at-node.result c.in-Some.kind c.at-node.ensures c.in-Some.ensures
-          c.if-not-keeps_table.ensures (sym c.if-not-keeps_nesting.ensures) (omega (arith, c.requires.deep)) c.if-not-keeps_places.ensures;
-    }
-
-pub returns-then-not-keeps_keys : goal.returns-then-not-keeps_keys
-returns-then-not-keeps_keys c =
-    breaks_keys (nodes_of c.args.nodes.now) c.args.bytes.now c.args.i c.at-node.result c.in-Some.kind c.at-node.ensures c.in-Some.ensures
-    c.if-not-keeps_table.ensures (sym c.if-not-keeps_nesting.ensures) (omega (arith, c.requires.deep)) c.if-not-keeps_places.ensures c.if-not-keeps_offsets.ensures
-    c.if-not-keeps_keys.ensures
+pub returns-in_err-ensure-3 : goal.returns-in_err-ensure-3
+returns-in_err-ensure-3 c =
+    let s = c.in_ok-subject.subject in
+    let e = c.in_err-ensure-3.ensures in
+    refused s c.args.nodes.now c.args.bytes.now c.args.i c.in_ok-subject.ensures c.from_residual-in_err-ensure-3.result c.in_err-ensure-3.field-0.0 _ (search rules) e.0
+    (breaks_offset s (sym c.keeps_nesting.ensures ∙ c.in_ok-ensure.ensures) (sym c.keeps_places.ensures ∙ c.in_ok-ensure-2.ensures) (sym c.keeps_offsets.ensures ∙ e.1))
 
 pub returns : goal.returns
 returns c =
-    none_broken (nodes_of c.args.nodes.now) c.args.bytes.now c.args.i c.at-node.result c.in-Some.kind c.at-node.ensures c.in-Some.ensures
-    c.if-not-keeps_table.ensures (sym c.if-not-keeps_nesting.ensures) (omega (arith, c.requires.deep)) c.if-not-keeps_places.ensures c.if-not-keeps_offsets.ensures
-    c.if-not-keeps_keys.ensures
+    let s = c.in_ok-subject.subject in
+    verdict_of s c.args.nodes.now c.args.bytes.now c.args.i c.in_ok-subject.ensures c.ensure-4.result
+    (verdict_last s (sym c.keeps_nesting.ensures ∙ c.in_ok-ensure.ensures) (sym c.keeps_places.ensures ∙ c.in_ok-ensure-2.ensures) (sym c.keeps_offsets.ensures ∙ c.in_ok-ensure-3.ensures)
+    c.ensure-4.result (rw c.keeps_keys.ensures at c.ensure-4.ensures))

@@ -1,7 +1,6 @@
-use Rattle.std.proofs.Common.{◌≡◌, ◌-◌, length, take}
-use Rattle.orders.specs.Items.{numbers_in}
-use Rattle.orders.proofs.Tens.{prefixed}
+use Rattle.std.proofs.Common.{◌≡◌, length, take}
+use Rattle.orders.proofs.Numbers.{NumbersSoFar}
 use Rattle.orders.proofs.item.read_numbers.Given as goal
 
-abbrev pub invariant-loop-k : goal.invariant-loop-k
-invariant-loop-k l = (length l.numbers ≡ 10) × (numbers_in 10 l.text ≡ prefixed (take l.k l.numbers) (numbers_in (10 - l.k) l.rest))
+abbrev pub invariant-loop-number : goal.invariant-loop-number
+invariant-loop-number g l = record { long : length l.number-items ≡ g.row.N; so_far : NumbersSoFar g.row.N l.number-index l.text l.rest (take l.number-index l.number-items) }

@@ -1,14 +1,10 @@
-use Rattle.std.proofs.Common.{◌-◌, ◌≤◌}
-use Rattle.layout.specs.Rules.{Filled}
-use Rattle.recording.specs.View.{nodes_in}
-use Rattle.pack.specs.Levels.{Level}
+use Rattle.std.proofs.Common.{◌-◌, All}
+use Rattle.recording.specs.Trees.{places_left}
+use Rattle.pack.specs.Levels.{IsDeep}
 use Rattle.pack.proofs.show.+show_trees.Given as goal
 
 abbrev pub decreases-show_trees : goal.decreases-show_trees
-decreases-show_trees l = l.end - l.start
+decreases-show_trees g l = 65 - l.depth
 
-abbrev pub invariant-loop-p : goal.invariant-loop-p
-invariant-loop-p l = (l.initial.p ≤ l.p) × (l.p ≤ l.end) × Filled (nodes_in l.recording) l.p l.end × Level (nodes_in l.recording) l.p l.end l.depth
-
-abbrev pub decreases-loop-p : goal.decreases-loop-p
-decreases-loop-p l = l.end - l.p
+abbrev pub invariant-loop-node : goal.invariant-loop-node
+invariant-loop-node g l = All (IsDeep l.depth) (places_left l.node-iterator)

@@ -1,7 +1,6 @@
-use Rattle.layout.specs.Nodes.{node_in}
-use Rattle.layout.proofs.Nodes.{at_nodes}
+use Rattle.std.proofs.Common.{arith}
+use Rattle.layout.proofs.Nodes.{read_node}
 use Rattle.layout.proofs.node.Node.at.Goals as goal
 
 pub returns : goal.returns
-unfolding node_in
-returns c = let e = at_nodes c.args.table.now c.args.i c.requires in cc
+returns c = read_node c.args.table.now c.loop-k.number-items c.args.i c.from.result c.requires c.from.ensures (λ j l. c.loop-k.invariant j (omega arith))

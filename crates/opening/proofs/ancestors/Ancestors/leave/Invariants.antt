@@ -1,11 +1,16 @@
-use Rattle.std.proofs.Common.{◌≡◌, ℕ, ◌<◌, ◌≤◌, get_or}
+use Rattle.std.proofs.Common.{◌≡◌, ℕ, ◌<◌, ◌≤◌, List, length, take, get_or}
 use Rattle.opening.proofs.ancestors.Ancestors.leave.Given as goal
 
-abbrev pub invariant-loop-self : goal.invariant-loop-self
-invariant-loop-self l =
-    (l.self.ends ≡ l.initial.self.ends)
-    × (l.self.count ≤ l.initial.self.count)
-    × ((k : ℕ) → l.self.count ≤ k → k < l.initial.self.count → get_or l.initial.self.ends k 0 ≤ l.i)
+-- those that are left stand where they stood, and those that are gone end at node i or before it
+abbrev pub invariant-loop-i : goal.invariant-loop-i
+invariant-loop-i l =
+    let old : List ℕ = l.initial.self-inside.ends.items in
+    let new : List ℕ = l.self-inside.ends.items in
+    record {
+      fewer : length new ≤ length old;
+      same : new ≡ take (length new) old;
+      gone : (k : ℕ) → length new ≤ k → k < length old → get_or old k 0 ≤ l.i;
+    }
 
-abbrev pub decreases-loop-self : goal.decreases-loop-self
-decreases-loop-self l = l.self.count
+abbrev pub decreases-loop-i : goal.decreases-loop-i
+decreases-loop-i l = length l.self-inside.ends.items

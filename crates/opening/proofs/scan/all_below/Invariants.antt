@@ -1,7 +1,0 @@
-use Rattle.std.proofs.Common.{◌≡◌, ◌+◌, ◌*◌, ltb}
-use Rattle.layout.specs.Lists.{every}
-use Rattle.layout.specs.Numbers.{wide, unsigned_at}
-use Rattle.opening.proofs.scan.all_below.Given as goal
-
-abbrev pub invariant-loop-k : goal.invariant-loop-k
-invariant-loop-k l = l.ok ≡ every l.k (λ k. ltb (unsigned_at l.bytes (l.place + (l.from + k) * wide l.width) l.width) l.bound)

@@ -1,0 +1,47 @@
+//! The trees that stand below a node.
+ghost use Rattle.std.specs.Prelude.{◌≡◌, ℕ, ◌+◌, ◌-◌, ◌*◌, ◌/◌, ◌<◌, ◌≤◌, length};
+ghost use Rattle.layout.specs.Tests.{spans_within};
+
+use layout::Node;
+
+/// Whether a tree has a span, and lies within so many nodes.
+pub fn spans_within(node: Node, room: u64) -> bool
+    ensures { result ≡ spans_within node room }
+{
+    node.span != 0 && node.span <= room
+}
+
+/// The nodes that stand side by side from one place of a table up to another, each a span after the one before. One that
+/// has no span or passes the end is given as `None`, and is the last.
+#[derive(Drop)]
+pub struct Children<'a> {
+    pub nodes: &'a [u8],
+    pub next: usize,
+    pub end: usize,
+    ghost ahead: { next ≤ end },
+    ghost within: { end ≤ length nodes.now / 80 },
+}
+
+impl Iterator for Children<'_> {
+    ghost use Rattle.std.specs.Iterator.{at_most};
+    ghost use Rattle.opening.specs.Walks.{Gives};
+
+    type Item = Option<Node>;
+
+    ghost next_gives = { Gives };
+
+    ghost remaining = { λ s. at_most (s.end - s.next) };
+
+    fn next(&mut self) -> Option<Option<Node>> {
+        if self.next == self.end {
+            return None;
+        }
+        let child = Node::at(self.nodes, self.next);
+        if !spans_within(child, (self.end - self.next) as u64) {
+            self.next = self.end;
+            return Some(None);
+        }
+        self.next += child.span as usize;
+        Some(Some(child))
+    }
+}

@@ -1,0 +1,15 @@
+use Rattle.std.proofs.Common.{codes, arith, rules}
+use Rattle.orders.proofs.Verbs.{read_as}
+use Rattle.orders.proofs.item.VerbTryFromRefSliceU8.try_from.Goals as goal
+
+pub returns-in-nodes : goal.returns-in-nodes
+returns-in-nodes c = read_as c.args.word.now (codes "nodes") (omega arith) (search rules)
+
+pub returns-in-bytes : goal.returns-in-bytes
+returns-in-bytes c = read_as c.args.word.now (codes "bytes") (omega arith) (search rules)
+
+pub returns-in-nodesfile : goal.returns-in-nodesfile
+returns-in-nodesfile c = read_as c.args.word.now (codes "nodesfile") (omega arith) (search rules)
+
+pub returns-in-bytesfile : goal.returns-in-bytesfile
+returns-in-bytesfile c = read_as c.args.word.now (codes "bytesfile") (omega arith) (search rules)

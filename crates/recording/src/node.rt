@@ -1,0 +1,164 @@
+ghost use Rattle.std.specs.Prelude.{◌≡◌, ◌+◌, ◌*◌, ◌<◌, ◌≤◌, length};
+ghost use Rattle.recording.specs.View.{nodes_in};
+
+use crate::recording::Recording;
+use crate::row::Row;
+use crate::trees::Trees;
+use crate::window::Window;
+use layout::{Kind, Node, Width};
+
+/// A node of an opened recording.
+#[derive(Clone, Copy)]
+pub struct NodeRef<'a> {
+    pub(crate) recording: Recording<'a>,
+    pub(crate) index: usize,
+    ghost stands: { index < length (nodes_in recording) },
+}
+
+impl<'a> NodeRef<'a> {
+    ghost use Rattle.std.specs.Prelude.{◌↔◌, IsSome, IfSome};
+    ghost use Rattle.layout.specs.Nodes.{end_of};
+    ghost use Rattle.layout.specs.Rows.{nulls_at};
+    ghost use Rattle.layout.specs.Rules.{Is, Filled, HasOffsets, Rule};
+    ghost use Rattle.layout.specs.Windows.{Inside};
+    ghost use Rattle.layout.specs.declared.fault.Refusal.{Refusal};
+    ghost use Rattle.recording.specs.NodeRefs.{table_of, run_of, numbers_of, IsOffset};
+    ghost use Rattle.recording.specs.NodeRefs.{nulls_between};
+    ghost use Rattle.recording.specs.Rows.{IsRow};
+    ghost use Rattle.recording.specs.Places.{children_of};
+    ghost use Rattle.recording.specs.Trees.{places_left};
+    ghost use Rattle.recording.specs.Windows.{window_at, window_in};
+
+    /// Which node of the recording it is.
+    pub fn index(&self) -> usize
+        ensures { result ≡ self.now.index }
+    {
+        self.index
+    }
+
+    /// Its ten numbers, which keep every rule.
+    pub fn node(&self) -> Node
+        ensures value { result ≡ numbers_of self.now }
+        ensures rules { (q : Refusal)
+            → Rule q (table_of self.now) (run_of self.now) self.now.index }
+    {
+        Node::at(self.recording.nodes, self.index)
+    }
+
+    pub fn kind(&self) -> Kind
+        ensures { Is (numbers_of self.now) result }
+    {
+        Kind::try_from(self.node().kind).unwrap()
+    }
+
+    /// The node after the last one of its tree. Its children fill the nodes between.
+    pub fn end(&self) -> usize
+        ensures value { result ≡ end_of (table_of self.now) self.now.index }
+        ensures bound { (self.now.index < result) × (result ≤ length (table_of self.now)) }
+        ensures children { Filled (table_of self.now) (self.now.index + 1) result }
+    {
+        self.index + self.node().span as usize
+    }
+
+    /// Its children.
+    pub fn children(&self) -> Trees<'a>
+        ensures { places_left result ≡ children_of self.now }
+    {
+        Trees {
+            recording: self.recording,
+            next: self.index + 1,
+            end: self.end(),
+        }
+    }
+
+    /// Row r.
+    pub fn row(&self, r: u64) -> Row<'a>
+        requires { r < (numbers_of self.now).rows }
+        ensures { IsRow self.now r result }
+    {
+        Row {
+            node: *self,
+            index: r,
+        }
+    }
+
+    /// Row r, if the node has it.
+    pub fn get_row(&self, r: u64) -> Option<Row<'a>>
+        ensures there { IsSome result ↔ (r < (numbers_of self.now).rows) }
+        ensures value { IfSome result (IsRow self.now r) }
+    {
+        if r < self.node().rows {
+            Some(self.row(r))
+        } else {
+            None
+        }
+    }
+
+    /// The offset of row r, of a Bytes or a List with rows; that of row `rows` is where the last
+    /// row ends.
+    pub fn offset(&self, r: u64) -> u64
+        requires row { r ≤ (numbers_of self.now).rows }
+        requires some { 0 < (numbers_of self.now).rows }
+        requires is { (w : Width) × HasOffsets (numbers_of self.now) w }
+        ensures { IsOffset self.now r result }
+    {
+        let width = self.offset_width();
+        let place = slot_place(self.node(), r, width.bytes() as u64);
+        self.recording.number_at(place, width)
+    }
+
+    // How wide the offsets of its kind are.
+    fn offset_width(&self) -> Width
+        requires { (w : Width) × HasOffsets (numbers_of self.now) w }
+        ensures { HasOffsets (numbers_of self.now) result }
+    {
+        self.kind().offset_width().unwrap()
+    }
+
+    /// How many rows are null: every row of a Null.
+    pub fn nulls(&self) -> u64
+        ensures { (k : Kind) → Is (numbers_of self.now) k
+            → result ≡ nulls_at k (run_of self.now) (numbers_of self.now) }
+    {
+        self.nulls_between(0, self.node().rows)
+    }
+
+    // How many of so many rows, from a row on, are null.
+    pub(crate) fn nulls_between(&self, first: u64, rows: u64) -> u64
+        requires { first + rows ≤ (numbers_of self.now).rows }
+        ensures { (k : Kind) → Is (numbers_of self.now) k
+            → result ≡ nulls_between k (run_of self.now) (numbers_of self.now) first rows }
+    {
+        let node = self.node();
+        if !self.kind().has_bitmap() {
+            return rows;
+        }
+        match node.bitmap_place() {
+            None => 0,
+            Some(place) => self.recording.zeros_at(place, node.from + first, rows),
+        }
+    }
+
+    /// All its rows.
+    pub fn whole(&self) -> Window
+        ensures rows { window_in self.now.recording result
+            ≡ window_at self.now.recording self.now.index 0 (numbers_of self.now).rows }
+        ensures inside { Inside (window_in self.now.recording result) }
+    {
+        let rows = self.node().rows;
+        Window {
+            node: self.index,
+            first: 0,
+            rows,
+        }
+    }
+}
+
+// Where row r of a node starts, in slots of `size` bytes.
+pub(crate) fn slot_place(node: Node, r: u64, size: u64) -> usize
+    requires row { node.from + r ≤ 2147483647 }
+    requires place { node.slots + (node.from + r) * size ≤ 4294967295 }
+    ensures { result ≡ node.slots + (node.from + r) * size }
+{
+    (node.slots + (node.from + r) * size) as usize
+}
