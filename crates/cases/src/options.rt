@@ -2,7 +2,7 @@
 use layout::{Width, read, write};
 use recording::{DictionaryHandling, IpcWriteOptions};
 
-// The alignment that is set, or the number of the refusal.
+// The alignment that is set, or the number that a host is told.
 fn aligned(alignment: usize) -> Result<usize, u32> {
     let options = IpcWriteOptions::try_new(alignment).map_err(|fault| fault.number())?;
     Ok(options.alignment())

@@ -5,6 +5,7 @@ use recording::Recording;
 use std::test::Fail;
 
 /// What is read of a row: the number that its slot holds; of a Fixed, how many bytes that slot has.
+// A null row is no failure, and its slot holds a number too; so this is no `Result`.
 #[derive(Clone, Copy, Debug, PartialEq, Eq)]
 enum RowRead {
     Valid(u64),
@@ -26,7 +27,7 @@ fn row(recording: &Recording, i: usize, r: u64) -> Option<RowRead> {
         Kind::Null | Kind::Struct => return None,
         Kind::Boolean => u64::from(row.bit()),
         Kind::Fixed => row.slot().len() as u64,
-        Kind::Bytes32 | Kind::Bytes64 | Kind::List32 | Kind::List64 => node.offset(r),
+        Kind::Bytes32 | Kind::Bytes64 | Kind::List32 | Kind::List64 => node.offsets().at(r),
         Kind::Dictionary => row.key(),
     };
     Some(if row.is_valid() {

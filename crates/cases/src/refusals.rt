@@ -7,6 +7,7 @@ use std::process::Abort;
 use std::test::Fail;
 
 /// How an opening ends: a refusal by its number and its node.
+// Numbers, since a host is told these and the table of cases has them.
 type Told = Result<(), (u32, u64)>;
 
 fn told<'x>(nodes: &'x [u8], bytes: &'x [u8]) -> Told {

@@ -1,6 +1,7 @@
 -- Rows and parts of lists.
-use Rattle.std.proofs.Common.{◌≡◌, ℕ, zero, suc, ◌+◌, ◌-◌, ◌<◌, ◌≤◌, List, ◌∷◌, ◌++◌, length, get_or, take, drop, sym, refl, ap, ◌∙◌, ap₂, le_of_suc-le-suc, not-suc-le-zero, arith, length-append, length-drop, length-take-le, take_all, take-take}
+use Rattle.std.proofs.Common.{◌≡◌, ℕ, zero, suc, ◌+◌, ◌-◌, ◌<◌, ◌≤◌, List, ◌∷◌, ◌++◌, length, get_or, take, drop, sym, refl, ap, ◌∙◌, ap₂, le_of_suc-le-suc, not-suc-le-zero, arith, length-append, length-drop, length-take-le, take_all, take-take, drop-drop}
 use lib.Seq.{take-append-le}
+use Rattle.std.proofs.lemmas.List.{drop-take}
 use Rattle.std.proofs.lemmas.Slice.{between_is}
 use Rattle.layout.specs.Lists.{rows, cut, put}
 
@@ -36,3 +37,12 @@ length-put p ys xs h = simp (length-append, length-drop) (omega (arith, length-t
 -- what a slice from a place on holds
 pub rest_is : {X : Type 0} (p : ℕ) (xs : List X) → take (length xs - p) (drop p xs) ≡ drop p xs
 rest_is p xs = take_all (length xs - p) (drop p xs) (simp length-drop (omega arith))
+
+-- a part of a part
+pub cut_cut : {X : Type 0} (p w a m : ℕ) (xs : List X) → p + w ≤ m → cut p w (cut a m xs) ≡ cut (a + p) w xs
+cut_cut p w a m xs h =
+    let e : m ≡ p + (m - p) = omega arith in
+    ap (λ (n : ℕ). cut p w (cut a n xs)) e
+    ∙ ap (take w) (drop-take p (m - p) (drop a xs))
+    ∙ take-take w (m - p) (drop p (drop a xs)) (omega arith)
+    ∙ ap (take w) (drop-drop p a xs)

@@ -37,6 +37,7 @@ impl From<Refusal> for u32 {
 }
 
 /// The refusal in words.
+// `thiserror` would write this, and what it prints would be in no contract.
 impl fmt::Display for Refusal {
     ghost output = { λ refusal. Some (sentence_of refusal) };
 
@@ -67,6 +68,7 @@ impl fmt::Display for Refusal {
 }
 
 /// A refusal and where it arose: column and node count from 0, and are 0 where none is concerned.
+// No `Option`s: a host in C is told 0.
 #[derive(Clone, Copy, Debug, PartialEq, Eq, Hash)]
 pub struct Fault {
     pub refusal: Refusal,

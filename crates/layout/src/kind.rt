@@ -27,6 +27,7 @@ impl TryFrom<u64> for Kind {
 
     ghost try_from_gives = { λ number kind. kind ≡ ok_or (kind_of number) KindOrSize };
 
+    // No derive makes an enum of a number.
     fn try_from(number: u64) -> Result<Kind, Refusal> {
         match number {
             0 => Ok(Kind::Null),

@@ -20,6 +20,7 @@ pub fn lies_within(place: u64, need: u64, len: u64) -> bool
 }
 
 /// A node of a recording: ten numbers, each of eight bytes where the host hands them.
+// Kind, size and bitmap are numbers, since a host in C hands them so.
 #[derive(Clone, Copy, Debug, PartialEq, Eq, Hash)]
 pub struct Node {
     pub kind: u64,
@@ -94,6 +95,7 @@ impl From<Node> for [u64; NODE_NUMBERS] {
 
 impl Node {
     /// Node i of a table.
+    // A type for the table would ask the same of i.
     pub fn at(table: &[u8], i: usize) -> Node
         requires { i < length table.now / 80 }
         ensures { result ≡ node_at (nodes_of table.now) i }

@@ -21,6 +21,7 @@ impl TryFrom<u64> for Width {
 
     ghost try_from_gives = { λ bytes width. width ≡ ok_or (width_of bytes) KindOrSize };
 
+    // No derive makes an enum of a number.
     fn try_from(bytes: u64) -> Result<Width, Refusal> {
         match bytes {
             1 => Ok(Width::One),

@@ -1,11 +1,10 @@
 -- Eight rows to a byte of a bitmap.
-use Rattle.std.proofs.Common.{◌≡◌, ℕ, zero, suc, ◌+◌, ◌-◌, ◌*◌, ◌/◌, ◌%◌, ◌^◌, ◌<◌, ◌≤◌, min, Bool, not, ◌&&◌, ◌||◌, eqb, ltb, leb, List, get_or, drop, refl, sym, ap, ◌∙◌, ap₂, arith, get_or-drop}
+use Rattle.std.proofs.Common.{◌≡◌, ℕ, zero, suc, ◌+◌, ◌*◌, ◌/◌, ◌%◌, ◌^◌, ◌<◌, ◌≤◌, Bool, not, ◌&&◌, ◌||◌, eqb, ltb, leb, get_or, refl, sym, ap, ◌∙◌, ap₂, arith}
 use Rattle.std.specs.Int.Bits.{bit_and, bit_or, or_shifted_r}
 use Rattle.std.specs.List.{fold, range_with_len}
 use mir.Val.{bool_byte}
 use Rattle.std.proofs.lemmas.Nat.{shl_whole}
 use Rattle.std.proofs.lemmas.Bool.Decides.{nat_tests}
-use Rattle.layout.specs.declared.bit.WholeBytes.{WholeBytes}
 use Rattle.layout.specs.Bits.{bit_of, flags}
 use Rattle.layout.specs.Lists.{every}
 use Rattle.layout.proofs.Bits.{flags_small, flags_masked, one_at_most}
@@ -43,50 +42,37 @@ unlike : (b x : ℕ) → not (leb b x) ≡ ltb x b
 unlike b x = grind (arith, nat_tests)
 
 -- the valid ones of the eight rows of byte j
-pub byte_tells : (keys : Keys) (j n : ℕ) → n ≡ flags 8 (λ t. leb keys.bound (slot_number keys.slots (8 * j + t)))
-    → eqb (bit_and n (get_or keys.marks.bytes.now (keys.marks.place + j) 0)) 0 ≡ every 8 (λ t. marked_below keys (8 * j + t))
-byte_tells keys j n h =
-    let bs : List ℕ = keys.marks.bytes.now in
-    let byte : ℕ = get_or bs (keys.marks.place + j) 0 in
-    let over : ℕ → Bool = λ t. leb keys.bound (slot_number keys.slots (8 * j + t)) in
-    let same : (t : ℕ) → t < 8 → (not (bit_of byte t) || not (over t)) ≡ marked_below keys (8 * j + t) =
+pub byte_tells : (keys : Keys) (from j n : ℕ) → keys.marks.first + from ≡ 8 * j → n ≡ flags 8 (λ t. leb keys.bound (slot_number keys.slots (from + t)))
+    → eqb (bit_and n (get_or keys.marks.bytes.now j 0)) 0 ≡ every 8 (λ t. marked_below keys (from + t))
+byte_tells keys from j n whole h =
+    let byte : ℕ = get_or keys.marks.bytes.now j 0 in
+    let over : ℕ → Bool = λ t. leb keys.bound (slot_number keys.slots (from + t)) in
+    let same : (t : ℕ) → t < 8 → (not (bit_of byte t) || not (over t)) ≡ marked_below keys (from + t) =
     λ t l.
-    (let q : (8 * j + t) / 8 ≡ j = omega arith in
-    let r : (8 * j + t) % 8 ≡ t = omega arith in
+    (let q : j ≡ (keys.marks.first + (from + t)) / 8 = omega arith in
+    let r : t ≡ (keys.marks.first + (from + t)) % 8 = omega arith in
     ap₂ (λ (b x : Bool). not b || x)
-    (ap₂ (λ (b m : ℕ). bit_of b m) (sym (get_or-drop keys.marks.place bs j 0) ∙ ap (λ (m : ℕ). get_or (drop keys.marks.place bs) m 0) (sym q)) (sym r))
-    (unlike keys.bound (slot_number keys.slots (8 * j + t)))) in
-    ap (λ (n : ℕ). eqb (bit_and n byte) 0) h ∙ flags_masked 8 over byte ∙ every_same 8 (λ t. not (bit_of byte t) || not (over t)) (λ t. marked_below keys (8 * j + t)) same
+    (ap₂ (λ (j m : ℕ). bit_of (get_or keys.marks.bytes.now j 0) m) q r)
+    (unlike keys.bound (slot_number keys.slots (from + t)))) in
+    ap (λ (n : ℕ). eqb (bit_and n byte) 0) h ∙ flags_masked 8 over byte ∙ every_same 8 (λ t. not (bit_of byte t) || not (over t)) (λ t. marked_below keys (from + t)) same
 
 -- eight rows at a time
-pub every_eights : (n first : ℕ) (p : ℕ → Bool) → every n (λ j. every 8 (λ t. p (8 * (first + j) + t))) ≡ every (8 * n) (λ k. p (8 * first + k))
-every_eights zero first p = refl
-every_eights (suc n) first p =
+pub every_eights : (n from : ℕ) (p : ℕ → Bool) → every n (λ j. every 8 (λ t. p (from + 8 * j + t))) ≡ every (8 * n) (λ k. p (from + k))
+every_eights zero from p = refl
+every_eights (suc n) from p =
     let m : 8 * suc n ≡ 8 * n + 8 = omega arith in
-    ap₂ ◌&&◌ (every_same 8 (λ t. p (8 * (first + n) + t)) (λ t. p (8 * first + (8 * n + t))) (λ t l. ap p (omega arith))) (every_eights n first p)
-    ∙ turned (every 8 (λ t. p (8 * first + (8 * n + t)))) (every (8 * n) (λ k. p (8 * first + k)))
-    ∙ sym (every_add (8 * n) 8 (λ k. p (8 * first + k)))
-    ∙ ap (λ (k : ℕ). every k (λ k. p (8 * first + k))) (sym m)
+    ap₂ ◌&&◌ (every_same 8 (λ t. p (from + 8 * n + t)) (λ t. p (from + (8 * n + t))) (λ t l. ap p (omega arith))) (every_eights n from p)
+    ∙ turned (every 8 (λ t. p (from + (8 * n + t)))) (every (8 * n) (λ k. p (from + k)))
+    ∙ sym (every_add (8 * n) 8 (λ k. p (from + k)))
+    ∙ ap (λ (m : ℕ). every m (λ k. p (from + k))) (sym m)
 
--- ---- the parts of all rows
-
-module _ (q : ℕ → Bool) (from rows : ℕ) (parts : WholeBytes) (before : parts.before ≡ min rows ((8 - from % 8) % 8)) (bytes : parts.bytes ≡ (rows - parts.before) / 8) (all : parts.before + 8 * parts.bytes + parts.after ≡ rows) where
-  abbrev head : Bool
-  head = every parts.before (λ k. q (from + k))
-
-  abbrev middle : Bool
-  middle = every (8 * parts.bytes) (λ k. q (8 * ((from + parts.before) / 8) + k))
-
-  abbrev tail : Bool
-  tail = every parts.after (λ k. q (from + parts.before + 8 * parts.bytes + k))
-
-  pub joined : every rows (λ k. q (from + k)) ≡ (head && (middle && tail))
-  joined =
-      let e : rows ≡ parts.before + (8 * parts.bytes + parts.after) = omega arith in
-      ap (λ (m : ℕ). every m (λ k. q (from + k))) e
-      ∙ every_add parts.before (8 * parts.bytes + parts.after) (λ k. q (from + k))
-      ∙ ap (λ (x : Bool). head && x)
-      (every_add (8 * parts.bytes) parts.after (λ k. q (from + (parts.before + k)))
-      ∙ ap₂ ◌&&◌
-      (every_same (8 * parts.bytes) (λ k. q (from + (parts.before + k))) (λ k. q (8 * ((from + parts.before) / 8) + k)) (λ k l. ap q (omega arith)))
-      (every_same parts.after (λ k. q (from + (parts.before + (8 * parts.bytes + k)))) (λ k. q (from + parts.before + 8 * parts.bytes + k)) (λ k l. ap q (omega arith))))
+-- all rows, in three parts
+pub joined : (p : ℕ → Bool) (a b c n : ℕ) → a + b + c ≡ n
+    → every n p ≡ (every a (λ k. p (0 + k)) && (every b (λ k. p (a + k)) && every c (λ k. p (a + b + k))))
+joined p a b c n e =
+    let f : n ≡ a + (b + c) = omega arith in
+    ap (λ (m : ℕ). every m p) f
+    ∙ every_add a (b + c) p
+    ∙ ap₂ ◌&&◌ (every_same a p (λ k. p (0 + k)) (λ k l. ap p (omega arith)))
+    (every_add b c (λ k. p (a + k))
+    ∙ ap (λ (x : Bool). every b (λ k. p (a + k)) && x) (every_same c (λ k. p (a + (b + k))) (λ k. p (a + b + k)) (λ k l. ap p (omega arith))))

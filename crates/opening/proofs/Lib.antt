@@ -1,4 +1,5 @@
 pub mod Flagged
 pub mod Order
+pub mod Sliced
 pub mod Subjects
 pub mod Walking

@@ -11,7 +11,7 @@ use Rattle.layout.specs.Tests.{tabled_as, tabled_by, holds}
 use Rattle.layout.proofs.Opening.{all_hold, below_4, below_next}
 use Rattle.layout.specs.Nodes.{nodes_of}
 use Rattle.opening.specs.declared.subject.Subject.{Subject}
-use Rattle.opening.specs.Checks.{Breaks, NodeVerdict}
+use Rattle.opening.specs.Checks.{AllHold, Breaks, NodeVerdict}
 use Rattle.opening.specs.Subjects.{table_of, kept}
 use Rattle.opening.proofs.Subjects.{table_kept}
 
@@ -34,7 +34,7 @@ module _ (ns : List Node) (bs : List ℕ) (i : ℕ) where
   pub breaks_table : holds KindOrSize ns bs i ≡ false → Breaks ns bs i KindOrSize
   breaks_table f = record { here = f; smaller = below_4 ns bs i }
 
-  pub verdict_err : (out : Result (Unit {0}) Refusal) (e q : Refusal) → IsErrAnd out (λ p. p ≡ e) → e ≡ q → Breaks ns bs i q → NodeVerdict ns bs i out
+  pub verdict_err : (out : Result ℕ Refusal) (e q : Refusal) → IsErrAnd out (λ p. p ≡ e) → e ≡ q → Breaks ns bs i q → NodeVerdict ns bs i out
   verdict_err (Ok x) e q told same b = absurd told
   verdict_err (Err p) e q told same b = subst (Breaks ns bs i) (sym (told ∙ same)) b
 
@@ -70,19 +70,20 @@ module _ (s : Subject) where
       pub breaks_offset : kept Offset s ≡ false → first Offset
       breaks_offset f = record { here = f; smaller = below_7 }
 
-      -- the last rule decides
-      pub verdict_last : kept Offset s ≡ true → (out : Result (Unit {0}) Refusal) → MatchResult out (λ _. kept Key s ≡ true) (λ q. (q ≡ Key) × (kept Key s ≡ false))
-          → NodeVerdict (table_of s) s.bytes.now s.index out
-      verdict_last offset (Ok x) key = all_hold (table_of s) s.bytes.now s.index (table_kept s) nesting place offset key
-      verdict_last offset (Err q) f = subst first (sym f.0) (record { here = f.1; smaller = next Offset below_7 offset })
+      module _ (offset : kept Offset s ≡ true) where
+        pub breaks_key : kept Key s ≡ false → first Key
+        breaks_key f = record { here = f; smaller = next Offset below_7 offset }
+
+        pub keeps_all : kept Key s ≡ true → AllHold (table_of s) s.bytes.now s.index
+        keeps_all = all_hold (table_of s) s.bytes.now s.index (table_kept s) nesting place offset
 
   -- it is node i of the bytes that were handed
   module _ (nb bs : List ℕ) (i : ℕ) (same : (s.nodes.now ≡ nb) × (s.bytes.now ≡ bs) × (s.index ≡ i)) where
-    pub verdict_of : (out : Result (Unit {0}) Refusal) → NodeVerdict (table_of s) s.bytes.now s.index out → NodeVerdict (nodes_of nb) bs i out
+    pub verdict_of : (out : Result ℕ Refusal) → NodeVerdict (table_of s) s.bytes.now s.index out → NodeVerdict (nodes_of nb) bs i out
     verdict_of out v =
         subst (λ (n : List ℕ). NodeVerdict (nodes_of n) bs i out) same.0
         (subst (λ (b : List ℕ). NodeVerdict (nodes_of s.nodes.now) b i out) same.1
         (subst (λ (j : ℕ). NodeVerdict (nodes_of s.nodes.now) s.bytes.now j out) same.2 v))
 
-    pub refused : (out : Result (Unit {0}) Refusal) (e q : Refusal) → IsErrAnd out (λ p. p ≡ e) → e ≡ q → first q → NodeVerdict (nodes_of nb) bs i out
+    pub refused : (out : Result ℕ Refusal) (e q : Refusal) → IsErrAnd out (λ p. p ≡ e) → e ≡ q → first q → NodeVerdict (nodes_of nb) bs i out
     refused out e q told is b = verdict_of out (verdict_err (table_of s) s.bytes.now s.index out e q told is b)

@@ -1,5 +1,5 @@
 -- What the rules of a node say by its kind.
-use Rattle.std.proofs.Common.{Ok, Result, cond, ◌≡◌, ℕ, ◌+◌, ◌*◌, ◌/◌, ◌<◌, true, ◌&&◌, leb, Some, Option, length, sym, refl, ap, ◌∙◌, subst, ap₂, arith, inl, inr, ◌⊎◌}
+use Rattle.std.proofs.Common.{Ok, Result, cond, ◌≡◌, ℕ, ◌+◌, ◌*◌, ◌/◌, ◌<◌, ◌≤◌, true, ◌&&◌, leb, Some, Option, length, sym, refl, ap, ◌∙◌, subst, ap₂, arith, inl, inr, ◌⊎◌}
 use Rattle.std.specs.Option.{ok_or}
 use Rattle.layout.specs.declared.fault.Refusal.{Refusal}
 use Rattle.layout.specs.declared.fault.Refusal.TheVariants.{KindOrSize, Nesting, Place, Offset, Key}
@@ -68,6 +68,11 @@ module _ (p : Placed) where
 
   placed : Laid s.bytes.now s.node
   placed = subst (Laid s.bytes.now) (sym s.at) (tells (table_of s) s.bytes.now s.index Place p.place)
+
+  -- the tree that it heads lies in the table
+  pub end_within : s.index + s.node.span ≤ length s.nodes.now / 80
+  end_within =
+      omega (arith, (tells (table_of s) s.bytes.now s.index Nesting p.nesting).within, length-nodes s.nodes.now, ap (λ (n : Node). n.span) s.at)
 
   -- the one child of a List or a Dictionary
   stands : ((n : ℕ) → ChildrenFit s.kind n → n ≡ 1) → s.index + 1 < length s.nodes.now / 80

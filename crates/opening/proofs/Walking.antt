@@ -1,5 +1,6 @@
 -- A walk over the children of the node that is checked.
 use Rattle.std.proofs.Common.{◌≡◌, ℕ, ◌+◌, ◌-◌, true, false, List, length, Some, sym, ap, ◌∙◌, subst, arith}
+use Rattle.layout.specs.declared.fault.Refusal.{Refusal}
 use Rattle.layout.specs.declared.node.Node.{Node}
 use Rattle.layout.specs.Kinds.{children_fit}
 use Rattle.layout.specs.Nodes.{nodes_of, node_at, end_of}
@@ -66,7 +67,7 @@ module _ (s : Subject) where
         walk_end (table_of s) s.kind s.index w.next n a.walked.0 a.walked.1 (omega (arith, full, e_is w n a)) (omega (arith, f.0, e)) (omega (arith, f.1, e))
 
     -- one does not fit
-    pub along_unfit : (t : Children) → BreaksOff w t → false ≡ shaped_as (Some s.kind) (table_of s) s.index
-    along_unfit t q =
+    pub along_unfit : (q : Refusal) (t : Children) → BreaksOff w q t → false ≡ shaped_as (Some s.kind) (table_of s) s.index
+    along_unfit e t q =
         walk_unfit (table_of s) s.kind s.index w.next n a.walked.0 (standing_at w) (w.end - w.next) a.walked.1
         (ap (λ (nb : List ℕ). node_at (nodes_of nb) w.next) a.nodes) (omega (arith, q.before, e_is w n a)) (omega (arith, q.before, e_is w n a)) (sym q.unfit)

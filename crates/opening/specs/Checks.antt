@@ -3,6 +3,7 @@ use Rattle.std.specs.Prelude.{◌≡◌, ℕ, ◌<◌, true, false, List, Ok, Er
 use Rattle.layout.specs.declared.fault.Refusal.{Refusal}
 use Rattle.layout.specs.declared.node.Node.{Node}
 use Rattle.layout.specs.Faults.{refusal_number}
+use Rattle.layout.specs.Nodes.{end_of}
 use Rattle.layout.specs.Tests.{holds}
 
 -- every rule holds at node i
@@ -14,6 +15,7 @@ pub record Breaks (ns : List Node) (bs : List ℕ) (i : ℕ) (q : Refusal) : Typ
   pub here : holds q ns bs i ≡ false
   pub smaller : (r : Refusal) → refusal_number r < refusal_number q → holds r ns bs i ≡ true
 
-abbrev pub NodeVerdict : List Node → List ℕ → ℕ → Result (Unit {0}) Refusal → Type 0
-NodeVerdict ns bs i (Ok _) = AllHold ns bs i
+-- every rule holds and this is where the node ends, or a rule is broken
+abbrev pub NodeVerdict : List Node → List ℕ → ℕ → Result ℕ Refusal → Type 0
+NodeVerdict ns bs i (Ok end) = AllHold ns bs i × (end ≡ end_of ns i)
 NodeVerdict ns bs i (Err q) = Breaks ns bs i q

@@ -1,5 +1,5 @@
 -- What stands in slots and bitmaps, and what a scan of keys under a bitmap tests.
-use Rattle.std.specs.Prelude.{ℕ, ◌+◌, ◌*◌, Bool, not, ◌||◌, drop, nat_lt}
+use Rattle.std.specs.Prelude.{ℕ, ◌+◌, ◌*◌, Bool, not, ◌||◌, nat_lt}
 use Rattle.layout.specs.Bits.{bit_at}
 use Rattle.layout.specs.Numbers.{wide, unsigned_at}
 use Rattle.opening.specs.declared.slots.Slots.{Slots}
@@ -8,12 +8,12 @@ use Rattle.opening.specs.declared.slots.Keys.{Keys}
 
 -- the number in slot k
 abbrev pub slot_number : Slots → ℕ → ℕ
-slot_number s k = unsigned_at s.bytes.now (s.place + k * wide s.width) s.width
+slot_number s k = unsigned_at s.bytes.now (k * wide s.width) s.width
 
--- bit k is 1
+-- the bit of row k is 1
 abbrev pub is_marked : Marks → ℕ → Bool
-is_marked m k = bit_at (drop m.place m.bytes.now) k
+is_marked m k = bit_at m.bytes.now (m.first + k)
 
--- the number in slot i is below the bound, or its bit is 0
+-- the key of row k is below the bound, or its bit is 0
 abbrev pub marked_below : Keys → ℕ → Bool
-marked_below keys i = not (is_marked keys.marks i) || nat_lt (slot_number keys.slots i) keys.bound
+marked_below keys k = not (is_marked keys.marks k) || nat_lt (slot_number keys.slots k) keys.bound

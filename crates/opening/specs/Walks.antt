@@ -1,5 +1,7 @@
 -- A walk over the nodes that stand side by side.
-use Rattle.std.specs.Prelude.{◌≡◌, ◌+◌, ◌-◌, ◌<◌, true, false, Option, Some, None}
+use Rattle.std.specs.Prelude.{◌≡◌, ◌+◌, ◌-◌, ◌<◌, true, false, Option, Some, None, Ok, Err, Result}
+use Rattle.layout.specs.declared.fault.Refusal.{Refusal}
+use Rattle.layout.specs.declared.fault.Refusal.TheVariants.{Nesting}
 use Rattle.layout.specs.declared.node.Node.{Node}
 use Rattle.layout.specs.Nodes.{nodes_of, node_at}
 use Rattle.layout.specs.Tests.{spans_within}
@@ -19,12 +21,13 @@ pub record Passes (s : Children) (child : Node) (t : Children) : Type 0 where
   pub nodes : t.nodes.now ≡ s.nodes.now
 
 -- a tree that does not fit, after which nothing comes
-pub record BreaksOff (s t : Children) : Type 0 where
+pub record BreaksOff (s : Children) (q : Refusal) (t : Children) : Type 0 where
+  pub refusal : q ≡ Nesting
   pub before : s.next < s.end
   pub unfit : spans_within (standing_at s) (s.end - s.next) ≡ false
   pub last : t.next ≡ t.end
 
-abbrev pub Gives : Children → Option (Option Node) → Children → Type 0
+abbrev pub Gives : Children → Option (Result Node Refusal) → Children → Type 0
 Gives s None t = s.next ≡ s.end
-Gives s (Some None) t = BreaksOff s t
-Gives s (Some (Some child)) t = Passes s child t
+Gives s (Some (Err q)) t = BreaksOff s q t
+Gives s (Some (Ok child)) t = Passes s child t

@@ -8,7 +8,7 @@ use std::marker::Model;
 /// Where the nodes end that a walk over a table stands below, the innermost last.
 #[derive(Drop)]
 pub struct Ancestors {
-    ends: ArrayVec<u64, MOST_DEEP>,
+    ends: ArrayVec<usize, MOST_DEEP>,
 }
 
 impl Model for Ancestors {
@@ -18,7 +18,7 @@ impl Model for Ancestors {
 }
 
 impl Ancestors {
-    pub fn none() -> Ancestors
+    pub fn new() -> Ancestors
         ensures { result ≡ [] }
     {
         Ancestors {
@@ -27,15 +27,15 @@ impl Ancestors {
     }
 
     /// How many they are.
-    pub fn count(&self) -> u64
+    pub fn len(&self) -> usize
         ensures number { result ≡ length self.now }
         ensures few { result ≤ 64 }
     {
-        self.ends.len() as u64
+        self.ends.len()
     }
 
     /// Leaves the innermost ones that end before node i or at it.
-    pub fn leave(&mut self, i: u64)
+    pub fn leave(&mut self, i: usize)
         ensures { Leaves i self.old self.new }
     {
         while self.ends.last().is_some_and(|end| *end <= i) {
@@ -44,7 +44,7 @@ impl Ancestors {
     }
 
     /// Enters a node that ends at `end`.
-    pub fn enter(&mut self, end: u64)
+    pub fn enter(&mut self, end: usize)
         requires { length self.old < 64 }
         ensures { self.new ≡ self.old ++ end ∷ [] }
     {

@@ -7,8 +7,8 @@ use crate::placed::Placed;
 use crate::subject::{Subject, ensure};
 use layout::Refusal;
 
-/// The rule of smallest number that node i breaks, given its depth.
-pub fn check_node(nodes: &[u8], bytes: &[u8], i: usize, depth: u64) -> Result<(), Refusal>
+/// Where node i ends, or the rule of smallest number that it breaks, given its depth.
+pub fn check_node(nodes: &[u8], bytes: &[u8], i: usize, depth: usize) -> Result<usize, Refusal>
     requires few { length nodes.now / 80 ≤ 65535 }
     requires stands { i < length nodes.now / 80 }
     requires deep { depth ≡ depth_of (nodes_of nodes.now) i }
@@ -19,5 +19,6 @@ pub fn check_node(nodes: &[u8], bytes: &[u8], i: usize, depth: u64) -> Result<()
     ensure(subject.keeps_places(), Refusal::Place)?;
     let placed = Placed { subject };
     ensure(placed.keeps_offsets(), Refusal::Offset)?;
-    ensure(placed.keeps_keys(), Refusal::Key)
+    ensure(placed.keeps_keys(), Refusal::Key)?;
+    Ok(placed.end())
 }

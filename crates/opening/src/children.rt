@@ -2,7 +2,7 @@
 ghost use Rattle.std.specs.Prelude.{◌≡◌, ℕ, ◌+◌, ◌-◌, ◌*◌, ◌/◌, ◌<◌, ◌≤◌, length};
 ghost use Rattle.layout.specs.Tests.{spans_within};
 
-use layout::Node;
+use layout::{Node, Refusal};
 
 /// Whether a tree has a span, and lies within so many nodes.
 pub fn spans_within(node: Node, room: u64) -> bool
@@ -12,7 +12,7 @@ pub fn spans_within(node: Node, room: u64) -> bool
 }
 
 /// The nodes that stand side by side from one place of a table up to another, each a span after the one before. One that
-/// has no span or passes the end is given as `None`, and is the last.
+/// has no span or passes the end is refused, and is the last.
 #[derive(Drop)]
 pub struct Children<'a> {
     pub nodes: &'a [u8],
@@ -26,22 +26,22 @@ impl Iterator for Children<'_> {
     ghost use Rattle.std.specs.Iterator.{at_most};
     ghost use Rattle.opening.specs.Walks.{Gives};
 
-    type Item = Option<Node>;
+    type Item = Result<Node, Refusal>;
 
     ghost next_gives = { Gives };
 
     ghost remaining = { λ s. at_most (s.end - s.next) };
 
-    fn next(&mut self) -> Option<Option<Node>> {
+    fn next(&mut self) -> Option<Result<Node, Refusal>> {
         if self.next == self.end {
             return None;
         }
         let child = Node::at(self.nodes, self.next);
         if !spans_within(child, (self.end - self.next) as u64) {
             self.next = self.end;
-            return Some(None);
+            return Some(Err(Refusal::Nesting));
         }
         self.next += child.span as usize;
-        Some(Some(child))
+        Some(Ok(child))
     }
 }

@@ -1,12 +1,14 @@
 //! The rules of an opening for what the slots of a node hold, a method to each.
-ghost use Rattle.std.specs.Prelude.{◌≡◌, ℕ, ◌+◌, ◌/◌, ◌<◌, true, length, Some};
+ghost use Rattle.std.specs.Prelude.{◌≡◌, ℕ, ◌+◌, ◌*◌, ◌/◌, ◌<◌, ◌≤◌, true, length, Some};
 ghost use Rattle.layout.specs.declared.fault.Refusal.TheVariants.{Nesting, Place, Offset, Key};
 ghost use Rattle.layout.specs.declared.kind.Kind.TheVariants.{Dictionary};
-ghost use Rattle.layout.specs.Numbers.{wide};
+ghost use Rattle.layout.specs.Numbers.{wide, unle};
 ghost use Rattle.layout.specs.Kinds.{offset_width};
-ghost use Rattle.layout.specs.Nodes.{node_at};
-ghost use Rattle.layout.specs.Rules.{reach};
+ghost use Rattle.layout.specs.Nodes.{node_at, end_of};
+ghost use Rattle.layout.specs.Rows.{slot_at};
+ghost use Rattle.layout.specs.Rules.{reach, Lies};
 ghost use Rattle.layout.specs.Tests.{rises_to, keyed_below};
+ghost use Rattle.opening.specs.Scans.{slot_number};
 ghost use Rattle.opening.specs.Subjects.{table_of, kept};
 
 use crate::slots::{Keys, Marks, Slots};
@@ -21,11 +23,19 @@ pub struct Placed<'a> {
     ghost place: { kept Place subject ≡ true },
 }
 
-impl Placed<'_> {
+impl<'a> Placed<'a> {
+    /// Where the tree of nodes that it heads ends.
+    pub fn end(&self) -> usize
+        ensures { result ≡ end_of (table_of self.now.subject) self.now.subject.index }
+    {
+        self.subject.index + self.subject.node.span as usize
+    }
+
     /// Whether the offsets, where its kind has any, are those of its data or child.
     pub fn keeps_offsets(&self) -> bool
         ensures { result ≡ kept Offset self.now.subject }
     {
+        // No `is_none_or`, as in `slots_lie`.
         match self.subject.kind.offset_width() {
             None => true,
             Some(width) => self.offsets_rise(width),
@@ -38,23 +48,30 @@ impl Placed<'_> {
         ensures { result ≡ rises_to self.now.subject.bytes.now (wide width) self.now.subject.node
             (reach self.now.subject.kind (table_of self.now.subject) self.now.subject.index) }
     {
-        let Subject { bytes, node, .. } = self.subject;
-        if node.rows == 0 {
-            return true;
-        }
-        let rows = self.subject.slots();
-        let offsets = Slots {
-            bytes,
-            place: node.slots,
-            width,
-            count: rows + 1,
-        };
+        let rows = self.subject.node.rows;
+        let offsets = self.numbers(width, rows + 1);
         let last = offsets.number(rows);
         let most = self.reach();
-        if last >= width.half() || last > most {
-            return false;
+        rows == 0 || (last < width.half() && last <= most && offsets.rises())
+    }
+
+    // The numbers in so many slots, from that of its first row on.
+    fn numbers(&self, width: Width, count: u64) -> Slots<'a>
+        requires { Lies self.now.subject.bytes.now self.now.subject.node.slots
+            ((self.now.subject.node.from + count) * wide width) }
+        ensures count { result.count ≡ count }
+        ensures at { (r : ℕ) → r < count → slot_number result r
+            ≡ unle (slot_at self.now.subject.bytes.now (wide width) self.now.subject.node r) }
+    {
+        let Subject { bytes, node, .. } = self.subject;
+        let wide = width.bytes() as u64;
+        let start = node.slots + node.from * wide;
+        let end = start + count * wide;
+        Slots {
+            bytes: &bytes[start as usize..end as usize],
+            width,
+            count,
         }
-        offsets.rises(node.from, node.rows)
     }
 
     // What no offset passes.
@@ -96,27 +113,20 @@ impl Placed<'_> {
         let width = Width::try_from(node.size).unwrap();
         let rows = self.child().rows;
         let bound = rows.min(width.half());
-        let count = self.subject.slots();
-        let slots = Slots {
-            bytes,
-            place: node.slots,
-            width,
-            count,
-        };
+        let slots = self.numbers(width, node.rows);
         match node.bitmap_place() {
-            None => slots.all_below(node.from, node.rows, bound),
+            None => slots.all_below(bound),
             Some(place) => {
                 let marks = Marks {
-                    bytes,
-                    place,
-                    count,
+                    bytes: &bytes[place as usize..],
+                    first: node.from,
                 };
                 let keys = Keys {
                     slots,
                     marks,
                     bound,
                 };
-                keys.all_below(node.from, node.rows)
+                keys.all_below()
             }
         }
     }

@@ -1,4 +1,4 @@
-//! Scans of offsets and keys. They look at every number and leave at the end, so that they compile to vectors.
+//! Scans of offsets and keys. A scan looks at every number of a run and leaves at its end, so that it compiles to vectors.
 ghost use Rattle.std.specs.Prelude.{◌≡◌, ℕ, ◌+◌, ◌-◌, ◌*◌, ◌/◌, ◌%◌, ◌^◌, ◌<◌, ◌≤◌, Bool, length, nat_le, nat_lt};
 ghost use Rattle.layout.specs.Lists.{every};
 ghost use Rattle.layout.specs.Bits.{flags};
@@ -21,24 +21,22 @@ fn every<F: Fn(u64) -> bool>(n: u64, passes: F) -> bool
 }
 
 impl Slots<'_> {
-    /// Whether none of the numbers in slots from to from + rows is less than the one before it.
-    pub fn rises(&self, from: u64, rows: u64) -> bool
-        requires { from + rows < self.now.count }
-        ensures { result ≡ every rows
-            (λ k. nat_le (slot_number self.now (from + k)) (slot_number self.now (from + (k + 1)))) }
+    /// Whether no number is less than the one before it.
+    pub fn rises(&self) -> bool
+        ensures { result ≡ every (self.now.count - 1)
+            (λ k. nat_le (slot_number self.now k) (slot_number self.now (k + 1))) }
     {
         every(
-            rows,
-            |k| self.number(from + k) <= self.number(from + (k + 1)),
+            self.count.saturating_sub(1),
+            |k| self.number(k) <= self.number(k + 1),
         )
     }
 
-    /// Whether every number in slots from to from + rows - 1 is below a bound.
-    pub fn all_below(&self, from: u64, rows: u64, bound: u64) -> bool
-        requires { from + rows ≤ self.now.count }
-        ensures { result ≡ every rows (λ k. nat_lt (slot_number self.now (from + k)) bound) }
+    /// Whether every number is below a bound.
+    pub fn all_below(&self, bound: u64) -> bool
+        ensures { result ≡ every self.now.count (λ k. nat_lt (slot_number self.now k) bound) }
     {
-        every(rows, |k| self.number(from + k) < bound)
+        every(self.count, |k| self.number(k) < bound)
     }
 
     // A bit for each of eight numbers, from slot `first` on: 1 where it is not below the bound.
@@ -53,21 +51,18 @@ impl Slots<'_> {
 }
 
 impl Keys<'_> {
-    /// Whether the valid ones of rows from to from + rows - 1 are below the bound: row by row up to a whole byte of the
-    /// bitmap, then eight rows at a time, then row by row again.
-    pub fn all_below(&self, from: u64, rows: u64) -> bool
-        requires { from + rows ≤ self.now.slots.count }
-        ensures { result ≡ every rows (λ k. marked_below self.now (from + k)) }
+    /// Whether the valid ones are below the bound: row by row up to a whole byte of the bitmap, then eight rows at a time,
+    /// then row by row again. A run that fails is the last.
+    pub fn all_below(&self) -> bool
+        ensures { result ≡ every self.now.slots.count (marked_below self.now) }
     {
-        let parts = WholeBytes::among(from, rows);
-        let first = from + parts.before;
-        let last = first + 8 * parts.bytes;
-        self.row_by_row(from, parts.before)
-            && self.byte_by_byte(first / 8, parts.bytes)
-            && self.row_by_row(last, parts.after)
+        let parts = WholeBytes::among(self.marks.first, self.slots.count);
+        self.row_by_row(0, parts.before)
+            && self.byte_by_byte(parts.before, parts.bytes)
+            && self.row_by_row(parts.before + 8 * parts.bytes, parts.after)
     }
 
-    // The same, row by row.
+    // The same for so many rows, from one on, row by row.
     fn row_by_row(&self, from: u64, rows: u64) -> bool
         requires { from + rows ≤ self.now.slots.count }
         ensures { result ≡ every rows (λ k. marked_below self.now (from + k)) }
@@ -77,19 +72,22 @@ impl Keys<'_> {
         })
     }
 
-    // The rows of `count` bytes of the bitmap, from its byte `first` on.
-    fn byte_by_byte(&self, first: u64, count: u64) -> bool
-        requires { 8 * (first + count) ≤ self.now.slots.count }
-        ensures { result ≡ every (8 * count) (λ k. marked_below self.now (8 * first + k)) }
+    // The same for the rows of so many bytes of the bitmap, the first of which starts at row `from`.
+    fn byte_by_byte(&self, from: u64, bytes: u64) -> bool
+        requires whole { 0 < bytes → (self.now.marks.first + from) % 8 ≡ 0 }
+        requires within { from + 8 * bytes ≤ self.now.slots.count }
+        ensures { result ≡ every (8 * bytes) (λ k. marked_below self.now (from + k)) }
     {
-        every(count, |j| self.eight_below(first + j))
+        let first = (self.marks.first + from) / 8;
+        every(bytes, |j| self.eight_below(from + 8 * j, first + j))
     }
 
-    // The eight rows of byte j of the bitmap.
-    fn eight_below(&self, j: u64) -> bool
-        requires { 8 * j + 8 ≤ self.now.slots.count }
-        ensures { result ≡ every 8 (λ t. marked_below self.now (8 * j + t)) }
+    // The same for the eight rows of byte j of the bitmap, the first of which is row `from`.
+    fn eight_below(&self, from: u64, j: u64) -> bool
+        requires whole { self.now.marks.first + from ≡ 8 * j }
+        requires within { from + 8 ≤ self.now.slots.count }
+        ensures { result ≡ every 8 (λ t. marked_below self.now (from + t)) }
     {
-        self.slots.eight_not_below(8 * j, self.bound) & self.marks.byte(j) == 0
+        self.slots.eight_not_below(from, self.bound) & self.marks.byte(j) == 0
     }
 }

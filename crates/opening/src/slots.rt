@@ -1,19 +1,18 @@
 //! What the slots and the bitmap of a node hold.
-ghost use Rattle.std.specs.Prelude.{◌≡◌, ℕ, ◌+◌, ◌*◌, ◌<◌, ◌≤◌, length, slice_index};
+ghost use Rattle.std.specs.Prelude.{◌≡◌, ℕ, ◌+◌, ◌*◌, ◌/◌, ◌^◌, ◌<◌, ◌≤◌, length, slice_index};
 ghost use Rattle.layout.specs.Numbers.{wide};
 ghost use Rattle.layout.specs.Bits.{bytes_for};
 
 use layout::{Width, read, read_bit};
 
-/// Numbers of one width, one after another, from a place on.
+/// Numbers of one width, one after another.
+// `recording` finds a number in the same way, but from what its types keep, where these rest on rules just tested.
 #[derive(Clone, Copy)]
 pub struct Slots<'a> {
     pub bytes: &'a [u8],
-    pub place: u64,
     pub width: Width,
     pub count: u64,
-    ghost few: { count ≤ 2147483648 },
-    ghost within: { place + count * wide width ≤ length bytes.now },
+    ghost long: { length bytes.now ≡ count * wide width },
 }
 
 impl Slots<'_> {
@@ -24,38 +23,37 @@ impl Slots<'_> {
         requires { k < self.now.count }
         ensures { result ≡ slot_number self.now k }
     {
-        let at = self.place + k * self.width.bytes() as u64;
+        let at = k * self.width.bytes() as u64;
         read(&self.bytes[at as usize..], self.width)
     }
 }
 
-/// A bitmap: which rows are valid.
+/// A bitmap, and the bit in it of the first row that is looked at.
+// A bit has to be named, since a slice begins at a byte.
 #[derive(Clone, Copy)]
 pub struct Marks<'a> {
     pub bytes: &'a [u8],
-    pub place: u64,
-    pub count: u64,
-    ghost few: { count ≤ 2147483647 },
-    ghost within: { place + bytes_for count ≤ length bytes.now },
+    pub first: u64,
 }
 
 impl Marks<'_> {
     ghost use Rattle.opening.specs.Scans.{is_marked};
 
-    /// Whether row k is valid.
+    /// Whether row k of those that are looked at is valid.
     pub fn is_set(&self, k: u64) -> bool
-        requires { k < self.now.count }
+        requires few { self.now.first + k < 2 ^ 64 }
+        requires within { (self.now.first + k) / 8 < length self.now.bytes.now }
         ensures { result ≡ is_marked self.now k }
     {
-        read_bit(&self.bytes[self.place as usize..], k)
+        read_bit(self.bytes, self.first + k)
     }
 
-    /// Byte j of them, the bits of rows from 8 * j on.
+    /// Byte j of it.
     pub fn byte(&self, j: u64) -> u8
-        requires { 8 * j < self.now.count }
-        ensures { result ≡ slice_index self.now.bytes.now (self.now.place + j) }
+        requires { j < length self.now.bytes.now }
+        ensures { result ≡ slice_index self.now.bytes.now j }
     {
-        self.bytes[(self.place + j) as usize]
+        self.bytes[j as usize]
     }
 }
 
@@ -65,5 +63,6 @@ pub struct Keys<'a> {
     pub slots: Slots<'a>,
     pub marks: Marks<'a>,
     pub bound: u64,
-    ghost alike: { marks.count ≡ slots.count },
+    ghost few: { marks.first + slots.count ≤ 2147483647 },
+    ghost within: { bytes_for (marks.first + slots.count) ≤ length marks.bytes.now },
 }

@@ -7,17 +7,10 @@ ghost use Rattle.layout.specs.Rules.{Is};
 ghost use Rattle.layout.specs.Tests.{tabled_as, rows_agree, shaped_as, slots_lie, bitmap_lies, data_lies, holds};
 
 use crate::children::{Children, spans_within};
-use layout::{Kind, MOST_ROWS, NODE_BYTES, Node, Refusal, bytes_for};
+use layout::{Kind, MOST_ROWS, NODE_BYTES, Node, Refusal, bytes_for, lies_within};
 
 /// How deep a node may stand; a top node has depth 1.
 pub const MOST_DEEP: usize = 64;
-
-// Whether `need` bytes from a place on lie within `len`.
-fn lies_within(place: u64, need: u64, len: u64) -> bool
-    ensures { result ≡ nat_le (place + need) len }
-{
-    place <= len && need <= len - place
-}
 
 // Whether size and rows are those that the table allows the kind.
 fn keeps_table(kind: Kind, node: Node) -> bool
@@ -39,7 +32,7 @@ pub struct Subject<'a> {
     pub nodes: &'a [u8],
     pub bytes: &'a [u8],
     pub index: usize,
-    pub depth: u64,
+    pub depth: usize,
     pub kind: Kind,
     pub node: Node,
     ghost few: { length nodes.now / 80 ≤ 65535 },
@@ -58,7 +51,7 @@ impl<'a> Subject<'a> {
         nodes: &'a [u8],
         bytes: &'a [u8],
         index: usize,
-        depth: u64,
+        depth: usize,
     ) -> Result<Subject<'a>, Refusal>
         requires few { length nodes.now / 80 ≤ 65535 }
         requires stands { index < length nodes.now / 80 }
@@ -84,7 +77,7 @@ impl<'a> Subject<'a> {
     pub fn keeps_nesting(&self) -> bool
         ensures { result ≡ kept Nesting self.now }
     {
-        self.is_filled() && self.depth <= MOST_DEEP as u64
+        self.is_filled() && self.depth <= MOST_DEEP
     }
 
     // Whether the span lies in the table, and the children fill it, as many as the kind has.
@@ -100,9 +93,10 @@ impl<'a> Subject<'a> {
             next: self.index + 1,
             end: self.index + self.node.span as usize,
         };
+        // By hand: a child that does not fit ends the walk, and the count with it.
         let mut count = 0;
         for child in children {
-            let Some(child) = child else {
+            let Ok(child) = child else {
                 return false;
             };
             if !self.rows_agree(child) {
@@ -133,6 +127,7 @@ impl<'a> Subject<'a> {
     fn slots_lie(&self) -> bool
         ensures { result ≡ slots_lie self.now.kind self.now.node self.now.bytes.now }
     {
+        // No `is_none_or`: what is inferred of a closure that borrows self tells nothing of its answer.
         match self.kind.slot_bytes(self.node.size, self.slots()) {
             None => true,
             Some(need) => self.lies(self.node.slots, need),
@@ -145,6 +140,7 @@ impl<'a> Subject<'a> {
         if !self.kind.has_bitmap() {
             return true;
         }
+        // No `is_none_or`, as above.
         match self.node.bitmap_place() {
             None => true,
             Some(place) => self.lies(place, bytes_for(self.slots())),
@@ -163,8 +159,8 @@ impl<'a> Subject<'a> {
         lies_within(place, need, self.bytes.len() as u64)
     }
 
-    /// How many slots the rows and those before them take.
-    pub fn slots(&self) -> u64
+    // How many slots the rows and those before them take.
+    fn slots(&self) -> u64
         ensures value { result ≡ self.now.node.from + self.now.node.rows }
         ensures few { result ≤ 2147483647 }
     {

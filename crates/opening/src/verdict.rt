@@ -4,7 +4,7 @@ ghost use Rattle.layout.specs.Opening.{Verdict};
 
 use crate::ancestors::Ancestors;
 use crate::check::check_node;
-use layout::{Fault, NODE_BYTES, Node, Refusal};
+use layout::{Fault, NODE_BYTES, Refusal};
 
 /// How many nodes a recording may have.
 pub const MOST_NODES: usize = 65_535;
@@ -23,12 +23,13 @@ pub fn judge(nodes: &[u8], bytes: &[u8]) -> Result<(), Fault>
     if count > MOST_NODES || bytes.len() > MOST_BYTES {
         return Err(Fault::from(Refusal::TooLarge));
     }
-    let mut ancestors = Ancestors::none();
+    let mut ancestors = Ancestors::new();
+    // i is the node that a fault names.
     for i in 0..count {
         let fault = |refusal| Fault::new(refusal, 0, i as u64);
-        ancestors.leave(i as u64);
-        check_node(nodes, bytes, i, ancestors.count() + 1).map_err(fault)?;
-        ancestors.enter(i as u64 + Node::at(nodes, i).span);
+        ancestors.leave(i);
+        let end = check_node(nodes, bytes, i, ancestors.len() + 1).map_err(fault)?;
+        ancestors.enter(end);
     }
     Ok(())
 }

@@ -22,6 +22,7 @@ pub enum Why {
     Memory,
 }
 
+// `thiserror` would write this and the next, and what they print would be in no contract.
 impl fmt::Display for Why {
     ghost output = { why_words };
 
@@ -42,6 +43,7 @@ impl fmt::Display for Why {
 
 impl Error for Why {}
 
+// By hand: a macro's `From` would have no contract, and what a line is refused with is in one.
 impl From<AllocError> for Why {
     ghost from_gives = { λ _ r. r ≡ Memory };
 

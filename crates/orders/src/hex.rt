@@ -27,6 +27,7 @@ fn read_pairs(heap: Global, text: &[u8]) -> Result<Vec<u8>, Why>
 {
     let mut bytes = Vec::new(heap);
     let mut rest = skip_blanks(text);
+    // Blanks may stand between pairs, so no `chunks` of the text are the pairs.
     while let [high, low, after @ ..] = rest {
         let byte = hex_pair(*high, *low).ok_or(Why::NotHex)?;
         bytes.push(byte)?;

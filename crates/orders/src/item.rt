@@ -12,6 +12,7 @@ use std::alloc::Global;
 use std::str;
 
 /// The two runs of bytes that a case is made of.
+// A word of the order: a closure in its place would have to be made and handed out.
 #[derive(Clone, Copy, Debug, PartialEq, Eq, Hash)]
 pub enum Part {
     Nodes,
@@ -19,7 +20,9 @@ pub enum Part {
 }
 
 /// What to do to the cases so far.
-#[derive(Debug, Drop)]
+// Each is matched once, where it is done.
+// No `Debug`: it would print the bytes of a recording.
+#[derive(Drop)]
 pub enum Item {
     Case(String),
     Node(Node),
@@ -27,7 +30,7 @@ pub enum Item {
     File(Part, String),
 }
 
-// The word that a line begins with.
+// The word that a line begins with, matched once; what a line means is defined by it.
 #[derive(Clone, Copy, Debug, PartialEq, Eq, Hash)]
 enum Verb {
     Case,
@@ -99,6 +102,7 @@ fn read_numbers<const N: usize>(text: &[u8]) -> Result<[u64; N], Why>
     ensures { result ≡ numbers_in N text.now }
 {
     let mut numbers = [0; N];
+    // Each word is taken off the front of the rest, as in every other item.
     let mut rest = text;
     for number in &mut numbers {
         let (word, after) = expect_word(rest)?;

@@ -25,7 +25,9 @@ use std::rt::Files;
 use text::Lines;
 
 /// A recording to open: its node table and its bytes. A case before the first `case` line has no name.
-#[derive(Debug, Drop)]
+// The two runs stand apart, since an opening takes them so.
+// No `Debug`: it would print the bytes of a recording.
+#[derive(Drop)]
 pub struct Case {
     pub name: Option<String>,
     pub nodes: Vec<u8>,

@@ -78,11 +78,7 @@ pub fn split_word(text: &[u8]) -> Option<(&[u8], &[u8])>
     ensures { MatchOption result (LacksWord text.now) (λ p. IsFirstWord text.now p.0.now p.1.now) }
 {
     let (word, rest) = split_before(skip_blanks(text), |byte| is_blank(*byte));
-    if word.is_empty() {
-        None
-    } else {
-        Some((word, rest))
-    }
+    (!word.is_empty()).then_some((word, rest))
 }
 
 /// The first word of a text, which it has to have, and what follows it.

@@ -9,26 +9,20 @@ use sample::SAMPLE;
 use show::show_case;
 use std::process::ExitCode;
 use std::rt::{Env, Files};
-use std::{env, fmt, fs, io};
+use std::{env, fs, io};
+use thiserror::Error;
 
 /// Why the program gives no answer, or not the whole of it.
-#[derive(Debug, Drop)]
+#[derive(Debug, Drop, Error)]
 enum Failure {
+    #[error("usage: pack [ORDER]")]
     Usage,
+    #[error("order: {0}")]
     Unread(io::Error),
+    #[error("order {0}")]
     Order(OrderError),
+    #[error("output: {0}")]
     Output(io::Error),
-}
-
-impl fmt::Display for Failure {
-    fn fmt<W: fmt::Write>(&self, f: &mut fmt::Formatter<W>) -> fmt::Result {
-        match self {
-            Failure::Usage => write!(f, "usage: pack [ORDER]"),
-            Failure::Unread(error) => write!(f, "order: {error}"),
-            Failure::Order(error) => write!(f, "order {error}"),
-            Failure::Output(error) => write!(f, "output: {error}"),
-        }
-    }
 }
 
 fn main(rt: HostRuntime) -> ExitCode {

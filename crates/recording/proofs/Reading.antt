@@ -19,6 +19,7 @@ use Rattle.layout.proofs.Places.{slot_within, bit_within}
 use Rattle.layout.proofs.Table.{kind_of_lem}
 use Rattle.layout.proofs.Tests.{natural-number}
 use Rattle.recording.specs.declared.node.NodeRef.{NodeRef}
+use Rattle.recording.specs.declared.offsets.Offsets.{Offsets}
 use Rattle.recording.specs.declared.row.Row.{Row}
 use Rattle.recording.specs.NodeRefs.{table_of, run_of, numbers_of, IsOffset}
 
@@ -66,30 +67,44 @@ module _ (n : NodeRef) (m : Node) (same : m ≡ numbers_of n) where
       let e = slot_within m.slots (m.from + r) y w w (length (run_of n)) refl l h in
       record { row = f; place = omega (arith, small); ends = e }
 
-  pub offset_there : (r : ℕ) (w : Width) → r ≤ (numbers_of n).rows → HasOffsets (numbers_of n) w → There (run_of n) m r (wide w)
-  offset_there r w l has =
-      let f = few r 0 (omega arith) in
-      there r (m.from + m.rows + 1) (wide w) (omega (arith, ap (λ (m : Node). m.rows) same)) (omega arith) (offsets_lie (run_of n) m placed has.0 w (of has.0 has.1) has.2)
-
-  -- ---- offsets
-
-  -- it is not below 0, so it is the number that was read; and a node has one width
-  pub offset_read : (r : ℕ) (w : Width) (x : ℕ) → r ≤ (numbers_of n).rows → 0 < (numbers_of n).rows → HasOffsets (numbers_of n) w → x ≡ unle (slot_at (run_of n) (wide w) m r) → IsOffset n r x
-  offset_read r w x l some has e =
-      let rising = rules_at n Offset has.0 w has.1 has.2 in
-      let is = e ∙ ap (λ (m : Node). unle (slot_at (run_of n) (wide w) m r)) same ∙ sym (natural-number (slot_at (run_of n) (wide w) (numbers_of n) r) (rising.naturals some r l)) in
-      let most : x ≤ reach has.0 (table_of n) n.index = omega (arith, is, rising.within some r l) in
-      record {
-        value = λ v h. subst (λ (w : Width). x ≡ offset_at (run_of n) (wide w) (numbers_of n) r) (one_width (numbers_of n) w v has h) is;
-        bound = λ k h. subst (λ (k : Kind). x ≤ reach k (table_of n) n.index) (one_kind (numbers_of n) has.0 k has.1 h) most;
-      }
-
   -- ---- nulls
 
   pub bitmap_there : (k : Kind) (place a c : ℕ) → Is (numbers_of n) k → true ≡ has_bitmap k → Some place ≡ bitmap_of m → a + c ≤ (numbers_of n).rows → place + bytes_for (m.from + a + c) ≤ length (run_of n)
   bitmap_there k place a c is b e h =
       let l = placed.bitmap k place (of k is) (sym b) (sym e) in
       omega (arith, l, ap (λ (m : Node). m.rows) same)
+
+-- ---- offsets
+
+-- a node is of some kind
+pub has_offsets : (o : Offsets) → HasOffsets (numbers_of o.node) o.width
+has_offsets o = let t = rules_at o.node KindOrSize in (t.kind, t.is, o.has t.kind t.is)
+
+module _ (o : Offsets) (m : Node) (same : m ≡ numbers_of o.node) where
+  abbrev n : NodeRef
+  n = o.node
+
+  abbrev w : ℕ
+  w = wide o.width
+
+  pub offset_there : (r : ℕ) → r ≤ (numbers_of n).rows → There (run_of n) m r w
+  offset_there r l =
+      let has = has_offsets o in
+      let f = few n m same r 0 (omega arith) in
+      there n m same r (m.from + m.rows + 1) w (omega (arith, ap (λ (m : Node). m.rows) same)) (omega arith)
+      (offsets_lie (run_of n) m (placed n m same) has.0 o.width (of n m same has.0 has.1) has.2)
+
+  -- it is not below 0, so it is the number that was read; and a node has one width
+  pub offset_read : (r x : ℕ) → r ≤ (numbers_of n).rows → 0 < (numbers_of n).rows → x ≡ unle (slot_at (run_of n) w m r) → IsOffset n r x
+  offset_read r x l some e =
+      let has = has_offsets o in
+      let rising = rules_at n Offset has.0 o.width has.1 has.2 in
+      let is = e ∙ ap (λ (m : Node). unle (slot_at (run_of n) w m r)) same ∙ sym (natural-number (slot_at (run_of n) w (numbers_of n) r) (rising.naturals some r l)) in
+      let most : x ≤ reach has.0 (table_of n) n.index = omega (arith, is, rising.within some r l) in
+      record {
+        value = λ v h. subst (λ (w : Width). x ≡ offset_at (run_of n) (wide w) (numbers_of n) r) (one_width (numbers_of n) o.width v has h) is;
+        bound = λ k h. subst (λ (k : Kind). x ≤ reach k (table_of n) n.index) (one_kind (numbers_of n) has.0 k has.1 h) most;
+      }
 
 -- ---- a row
 
@@ -141,5 +156,5 @@ pub key_below : (r : Row) → Is (numbers_of r.node) Dictionary → mark_at (run
 key_below r is valid = (rules_at r.node Key is).within r.index r.within valid
 
 -- the row after it is one of those that have an offset
-pub row_next : (r : Row) → r.index + 1 ≤ 2147483647
-row_next r = omega (arith, r.within, (rules_at r.node KindOrSize).rows)
+pub row_next : (n : NodeRef) (r : ℕ) → r < (numbers_of n).rows → r + 1 ≤ 2147483647
+row_next n r within = omega (arith, within, (rules_at n KindOrSize).rows)

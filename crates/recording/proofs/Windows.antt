@@ -13,14 +13,12 @@ use Rattle.layout.specs.Rows.{offset_at, count_at, string_at, nulls_in}
 use Rattle.layout.specs.Rules.{Is, HasOffsets, reach, ChildrenFit}
 use Rattle.layout.specs.Trees.{Tree, Forest, trees_in, tree_at, tree_as}
 use Rattle.layout.specs.Messages.{null_count, own_field}
-use Rattle.layout.specs.Windows.{marks_in, marks_at, shown, shown_in}
+use Rattle.layout.specs.Windows.{Inside, marks_in, marks_at, shown, shown_in}
 use Rattle.layout.proofs.Facts.{child_stands}
 use Rattle.laws.proofs.Table.{tree_as_lem}
 use Rattle.recording.specs.declared.node.NodeRef.{NodeRef}
-use Rattle.recording.specs.declared.recording.Recording.{Recording}
 use Rattle.recording.specs.declared.window.Window.{Window}
-use Rattle.recording.specs.NodeRefs.{table_of, run_of, numbers_of, IsNode, nulls_between}
-use Rattle.recording.specs.View.{nodes_in, bytes_in}
+use Rattle.recording.specs.NodeRefs.{table_of, run_of, numbers_of, nulls_between}
 use Rattle.recording.specs.Windows.{window_in, HasStrings, HasElements}
 use Rattle.recording.proofs.Reading.{rules_at}
 
@@ -58,14 +56,17 @@ nulls_shown n k is a c =
     ∙ nulls_of_tree k (run_of n) m a c (trees_in (table_of n) (n.index + 1) (end_of (table_of n) n.index))
     ∙ sym (ap (λ (t : Tree). (own_field (shown (run_of n) t a c)).nulls) (tree_of n k is))
 
--- and so is what is counted of a window's node
-pub nulls_of_window : (rec : Recording) (n : NodeRef) (w : Window) (x : ℕ) → IsNode rec w.node n → ((k : Kind) → Is (numbers_of n) k → x ≡ nulls_between k (run_of n) (numbers_of n) w.first w.rows)
-    → x ≡ (own_field (shown_in (window_in rec w))).nulls
-nulls_of_window rec n w x here counted =
-    let t = rules_at n KindOrSize in
-    counted t.kind t.is
-    ∙ nulls_shown n t.kind t.is w.first w.rows
-    ∙ ap₂ (λ (rec : Recording) (i : ℕ). (own_field (shown (bytes_in rec) (tree_at (nodes_in rec) i) w.first w.rows)).nulls) here.0 here.1
+-- ---- windows
+
+pub inside_of : (w : Window) → Inside (window_in w)
+inside_of w = record { opened = w.node.recording.opened; stands = w.node.stands; within = w.inside }
+
+-- what is counted of its rows is what they show
+pub nulls_of_window : (w : Window) (x : ℕ) → ((k : Kind) → Is (numbers_of w.node) k → x ≡ nulls_between k (run_of w.node) (numbers_of w.node) w.first w.rows)
+    → x ≡ (own_field (shown_in (window_in w))).nulls
+nulls_of_window w x counted =
+    let t = rules_at w.node KindOrSize in
+    counted t.kind t.is ∙ nulls_shown w.node t.kind t.is w.first w.rows
 
 -- ---- byte strings and elements
 

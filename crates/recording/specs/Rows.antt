@@ -33,4 +33,4 @@ IsString row bs =
 -- the elements of a List
 abbrev pub IsElements : Row → Window → Type 0
 IsElements row v =
-    (w : Width) → HasElements (numbers_of row.node) w → window_in row.node.recording v ≡ elements_at row.node.recording row.node.index row.index w
+    (w : Width) → HasElements (numbers_of row.node) w → window_in v ≡ elements_at row.node.recording row.node.index row.index w

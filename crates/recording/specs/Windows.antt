@@ -17,13 +17,14 @@ use Rattle.recording.specs.declared.recording.Recording.{Recording}
 use Rattle.recording.specs.declared.window.Window.{Window}
 use Rattle.recording.specs.declared.window.RowValue.{RowValue}
 use Rattle.recording.specs.declared.window.RowValue.TheVariants as row
+use Rattle.recording.specs.NodeRefs.{IsNode}
 use Rattle.recording.specs.View.{nodes_in, bytes_in, node_of}
 
 abbrev pub window_at : Recording → ℕ → ℕ → ℕ → layout.Window
 window_at rec i a n = record { nodes = nodes_in rec; bytes = bytes_in rec; node = i; first = a; rows = n }
 
-abbrev pub window_in : Recording → Window → layout.Window
-window_in rec w = window_at rec w.node w.first w.rows
+abbrev pub window_in : Window → layout.Window
+window_in w = window_at w.node.recording w.node.index w.first w.rows
 
 -- a node's kind is Bytes, or List, with offsets of a width
 abbrev pub HasStrings : Node → Width → Type 0
@@ -39,7 +40,7 @@ elements_at rec i r w = window_at rec (i + 1) (offset_at (bytes_in rec) (wide w)
 -- a window is made exactly if it lies inside, and of just these rows
 abbrev pub Made : Recording → ℕ → ℕ → ℕ → Option Window → Type 0
 Made rec i a n None = Inside (window_at rec i a n) → ⊥
-Made rec i a n (Some w) = (window_in rec w ≡ window_at rec i a n) × Inside (window_at rec i a n)
+Made rec i a n (Some w) = (window_in w ≡ window_at rec i a n) × Inside (window_at rec i a n)
 
 -- the value that what a row of node i has stands for
 abbrev pub meaning : Recording → ℕ → RowValue → Value
@@ -47,16 +48,16 @@ meaning rec i row.Null = null
 meaning rec i (row.Bit b) = Value.bit b
 meaning rec i (row.Fixed s) = Value.bytes s.now
 meaning rec i (row.Bytes s) = Value.bytes s.now
-meaning rec i (row.List v) = Value.list (held (values_in (window_in rec v)))
+meaning rec i (row.List v) = Value.list (held (values_in (window_in v)))
 meaning rec i (row.Struct r) = Value.struct (held (values_at (bytes_in rec) (trees_in (nodes_in rec) (i + 1) (end_of (nodes_in rec) i)) r))
-meaning rec i (row.Entry v) = value_in (window_in rec v) 0
+meaning rec i (row.Entry v) = value_in (window_in v) 0
 
--- the windows that it names lie inside the child's rows, and the row that it names is one of the Struct's
+-- the windows that it names lie inside the rows of the child, node i + 1 of the recording, and the row that it names is one of the Struct's
 abbrev pub Reaches : Recording → ℕ → RowValue → Type 0
 Reaches rec i row.Null = Unit {0}
 Reaches rec i (row.Bit b) = Unit {0}
 Reaches rec i (row.Fixed s) = Unit {0}
 Reaches rec i (row.Bytes s) = Unit {0}
-Reaches rec i (row.List v) = Inside (window_in rec v) × (v.node ≡ i + 1)
+Reaches rec i (row.List v) = Inside (window_in v) × IsNode rec (i + 1) v.node
 Reaches rec i (row.Struct r) = Is (node_of rec i) Struct × (r < (node_of rec i).rows)
-Reaches rec i (row.Entry v) = Inside (window_in rec v) × (v.node ≡ i + 1) × (v.rows ≡ 1)
+Reaches rec i (row.Entry v) = Inside (window_in v) × IsNode rec (i + 1) v.node × (v.rows ≡ 1)

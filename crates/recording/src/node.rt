@@ -1,14 +1,16 @@
 ghost use Rattle.std.specs.Prelude.{◌≡◌, ◌+◌, ◌*◌, ◌<◌, ◌≤◌, length};
 ghost use Rattle.recording.specs.View.{nodes_in};
 
+use crate::offsets::Offsets;
 use crate::recording::Recording;
 use crate::row::Row;
 use crate::trees::Trees;
 use crate::window::Window;
-use layout::{Kind, Node, Width};
+use layout::{Kind, Node};
 
 /// A node of an opened recording.
-#[derive(Clone, Copy)]
+// Its number in the table names it: the table is the host's, and a node's children come after it there.
+#[derive(Clone, Copy, Debug, PartialEq, Eq)]
 pub struct NodeRef<'a> {
     pub(crate) recording: Recording<'a>,
     pub(crate) index: usize,
@@ -20,9 +22,9 @@ impl<'a> NodeRef<'a> {
     ghost use Rattle.layout.specs.Nodes.{end_of};
     ghost use Rattle.layout.specs.Rows.{nulls_at};
     ghost use Rattle.layout.specs.Rules.{Is, Filled, HasOffsets, Rule};
-    ghost use Rattle.layout.specs.Windows.{Inside};
     ghost use Rattle.layout.specs.declared.fault.Refusal.{Refusal};
-    ghost use Rattle.recording.specs.NodeRefs.{table_of, run_of, numbers_of, IsOffset};
+    ghost use Rattle.layout.specs.declared.number.Width.{Width};
+    ghost use Rattle.recording.specs.NodeRefs.{table_of, run_of, numbers_of};
     ghost use Rattle.recording.specs.NodeRefs.{nulls_between};
     ghost use Rattle.recording.specs.Rows.{IsRow};
     ghost use Rattle.recording.specs.Places.{children_of};
@@ -45,6 +47,7 @@ impl<'a> NodeRef<'a> {
         Node::at(self.recording.nodes, self.index)
     }
 
+    /// What it holds.
     pub fn kind(&self) -> Kind
         ensures { Is (numbers_of self.now) result }
     {
@@ -71,7 +74,7 @@ impl<'a> NodeRef<'a> {
         }
     }
 
-    /// Row r.
+    /// Row r, which the node has; `get_row` tests that.
     pub fn row(&self, r: u64) -> Row<'a>
         requires { r < (numbers_of self.now).rows }
         ensures { IsRow self.now r result }
@@ -87,6 +90,7 @@ impl<'a> NodeRef<'a> {
         ensures there { IsSome result ↔ (r < (numbers_of self.now).rows) }
         ensures value { IfSome result (IsRow self.now r) }
     {
+        // With `then`, what is known of a closure that borrows self does not tell its answer.
         if r < self.node().rows {
             Some(self.row(r))
         } else {
@@ -94,25 +98,21 @@ impl<'a> NodeRef<'a> {
         }
     }
 
-    /// The offset of row r, of a Bytes or a List with rows; that of row `rows` is where the last
-    /// row ends.
-    pub fn offset(&self, r: u64) -> u64
-        requires row { r ≤ (numbers_of self.now).rows }
-        requires some { 0 < (numbers_of self.now).rows }
-        requires is { (w : Width) × HasOffsets (numbers_of self.now) w }
-        ensures { IsOffset self.now r result }
+    /// Its offsets, of a Bytes or a List; `get_offsets` tests that it is one.
+    pub fn offsets(&self) -> Offsets<'a>
+        requires { (w : Width) × HasOffsets (numbers_of self.now) w }
+        ensures { result.node ≡ self.now }
     {
-        let width = self.offset_width();
-        let place = slot_place(self.node(), r, width.bytes() as u64);
-        self.recording.number_at(place, width)
+        self.get_offsets().unwrap()
     }
 
-    // How wide the offsets of its kind are.
-    fn offset_width(&self) -> Width
-        requires { (w : Width) × HasOffsets (numbers_of self.now) w }
-        ensures { HasOffsets (numbers_of self.now) result }
+    /// Its offsets, if its kind has them.
+    pub fn get_offsets(&self) -> Option<Offsets<'a>>
+        ensures there { IsSome result ↔ ((w : Width) × HasOffsets (numbers_of self.now) w) }
+        ensures value { IfSome result (λ o. o.node ≡ self.now) }
     {
-        self.kind().offset_width().unwrap()
+        let width = self.kind().offset_width()?;
+        Some(Offsets { node: *self, width })
     }
 
     /// How many rows are null: every row of a Null.
@@ -140,14 +140,13 @@ impl<'a> NodeRef<'a> {
     }
 
     /// All its rows.
-    pub fn whole(&self) -> Window
-        ensures rows { window_in self.now.recording result
+    pub fn whole(&self) -> Window<'a>
+        ensures { window_in result
             ≡ window_at self.now.recording self.now.index 0 (numbers_of self.now).rows }
-        ensures inside { Inside (window_in self.now.recording result) }
     {
         let rows = self.node().rows;
         Window {
-            node: self.index,
+            node: *self,
             first: 0,
             rows,
         }

@@ -1,10 +1,10 @@
-ghost use Rattle.std.specs.Prelude.{◌≡◌, true};
-ghost use Rattle.recording.specs.Alignments.{is_alignment};
+ghost use Rattle.std.specs.Prelude.{◌≡◌};
 
-use layout::{Fault, Refusal};
+use crate::alignment::Alignment;
+use layout::Fault;
 
 /// How a dictionary that grew is sent.
-#[derive(Clone, Copy, Debug, Default, PartialEq, Eq)]
+#[derive(Clone, Copy, Debug, Default, PartialEq, Eq, Hash)]
 pub enum DictionaryHandling {
     /// A dictionary that changed is sent whole.
     #[default]
@@ -13,16 +13,14 @@ pub enum DictionaryHandling {
     Delta,
 }
 
-/// How a stream writes: its alignment, which is 8, 16, 32 or 64, and what it does with dictionaries.
-#[derive(Clone, Copy, Debug, PartialEq, Eq)]
+/// How a stream writes: its alignment, and what it does with dictionaries.
+#[derive(Clone, Copy, Debug, PartialEq, Eq, Hash)]
 pub struct IpcWriteOptions {
-    alignment: u8,
+    alignment: Alignment,
     dictionary_handling: DictionaryHandling,
     error_on_replacement: bool,
-    ghost aligned: { is_alignment alignment ≡ true },
 }
 
-// A struct with a ghost field derives no `Default`.
 /// Alignment 64, Resend, and no error on replacement.
 impl Default for IpcWriteOptions {
     ghost use Rattle.std.specs.Prelude.{false};
@@ -31,9 +29,10 @@ impl Default for IpcWriteOptions {
 
     ghost is_default = { λ o. Sets o 64 Resend false };
 
+    // A derived one would say that each field has its default, and not which.
     fn default() -> IpcWriteOptions {
         IpcWriteOptions {
-            alignment: 64,
+            alignment: Alignment::SixtyFour,
             dictionary_handling: DictionaryHandling::Resend,
             error_on_replacement: false,
         }
@@ -41,9 +40,11 @@ impl Default for IpcWriteOptions {
 }
 
 impl IpcWriteOptions {
-    ghost use Rattle.std.specs.Prelude.{false, IfOk, IfErr};
+    ghost use Rattle.std.specs.Prelude.{true, false, IfOk, IfErr};
+    ghost use Rattle.layout.specs.declared.fault.Refusal.TheVariants as refused;
     ghost use Rattle.layout.specs.Faults.{fault_of};
     ghost use Rattle.recording.specs.declared.options.DictionaryHandling.TheVariants.{Resend};
+    ghost use Rattle.recording.specs.Alignments.{is_alignment, alignment_number};
     ghost use Rattle.recording.specs.Options.{Sets};
 
     /// The default with an alignment; one that is not 8, 16, 32 or 64 is refused.
@@ -51,46 +52,50 @@ impl IpcWriteOptions {
         ensures set { IfOk result (λ o.
             (is_alignment alignment ≡ true) × Sets o alignment Resend false) }
         ensures refused { IfErr result (λ f.
-            (is_alignment alignment ≡ false) × (f ≡ fault_of Refusal.Alignment 0 0)) }
+            (is_alignment alignment ≡ false) × (f ≡ fault_of refused.Alignment 0 0)) }
     {
-        match alignment {
-            8 | 16 | 32 | 64 => {
-                // A struct with a ghost field takes no `..IpcWriteOptions::default()`.
-                let mut options = IpcWriteOptions::default();
-                options.alignment = alignment as u8;
-                Ok(options)
-            }
-            _ => Err(Fault::from(Refusal::Alignment)),
+        Ok(IpcWriteOptions {
+            alignment: Alignment::try_from(alignment)?,
+            ..IpcWriteOptions::default()
+        })
+    }
+
+    /// These options with another handling of dictionaries.
+    pub fn with_dictionary_handling(self, handling: DictionaryHandling) -> IpcWriteOptions
+        ensures { Sets result (alignment_number self.alignment) handling self.error_on_replacement }
+    {
+        IpcWriteOptions {
+            dictionary_handling: handling,
+            ..self
         }
     }
 
-    pub fn with_dictionary_handling(mut self, handling: DictionaryHandling) -> IpcWriteOptions
-        ensures { Sets result self.alignment handling self.error_on_replacement }
+    /// These options with or without an error on replacement.
+    pub fn with_error_on_replacement(self, refuse: bool) -> IpcWriteOptions
+        ensures { Sets result (alignment_number self.alignment) self.dictionary_handling refuse }
     {
-        self.dictionary_handling = handling;
-        self
+        IpcWriteOptions {
+            error_on_replacement: refuse,
+            ..self
+        }
     }
 
-    pub fn with_error_on_replacement(mut self, refuse: bool) -> IpcWriteOptions
-        ensures { Sets result self.alignment self.dictionary_handling refuse }
-    {
-        self.error_on_replacement = refuse;
-        self
-    }
-
+    /// 8, 16, 32 or 64.
     pub fn alignment(&self) -> usize
-        ensures value { result ≡ self.now.alignment }
+        ensures value { result ≡ alignment_number self.now.alignment }
         ensures aligned { is_alignment result ≡ true }
     {
-        self.alignment as usize
+        usize::from(self.alignment)
     }
 
+    /// How a dictionary that grew is sent.
     pub fn dictionary_handling(&self) -> DictionaryHandling
         ensures { result ≡ self.now.dictionary_handling }
     {
         self.dictionary_handling
     }
 
+    /// Whether a dictionary that would be replaced is refused.
     pub fn error_on_replacement(&self) -> bool
         ensures { result ≡ self.now.error_on_replacement }
     {

@@ -4,12 +4,15 @@ ghost use Rattle.layout.specs.Opening.{Kept};
 use crate::node::NodeRef;
 use crate::trees::Trees;
 use crate::window::Window;
-use layout::{Fault, MOST_ROWS, NODE_BYTES, Refusal, Width, count_zeros, read, read_bit};
+use layout::{
+    Fault, MOST_ROWS, NODE_BYTES, Refusal, Width, count_zeros, lies_within, read, read_bit,
+};
 use opening::judge;
+use std::fmt;
 
 /// A table of nodes and a run of bytes that keep every rule of an opening. It owns neither, and copies nothing.
 #[repr(C)]
-#[derive(Clone, Copy)]
+#[derive(Clone, Copy, PartialEq, Eq)]
 pub struct Recording<'a> {
     pub(crate) nodes: &'a [u8],
     pub(crate) bytes: &'a [u8],
@@ -22,16 +25,14 @@ impl<'a> Recording<'a> {
     ghost use Rattle.layout.specs.Bits.{bit_at, bytes_for, zeros};
     ghost use Rattle.layout.specs.Columns.{ColumnsAnswer};
     ghost use Rattle.layout.specs.Lists.{rows};
-    ghost use Rattle.layout.specs.Messages.{own_field};
     ghost use Rattle.layout.specs.Numbers.{wide, unsigned_at};
     ghost use Rattle.layout.specs.Opening.{Answers};
     ghost use Rattle.layout.specs.Rules.{Filled};
-    ghost use Rattle.layout.specs.Windows.{Inside, shown_in};
     ghost use Rattle.recording.specs.View.{nodes_in, bytes_in};
     ghost use Rattle.recording.specs.NodeRefs.{IsNode};
     ghost use Rattle.recording.specs.Places.{trees_of};
     ghost use Rattle.recording.specs.Trees.{places_left};
-    ghost use Rattle.recording.specs.Windows.{window_in, Made};
+    ghost use Rattle.recording.specs.Windows.{Made};
 
     /// A recording of no nodes and no bytes, to open into.
     pub fn empty() -> Recording<'a>
@@ -73,13 +74,14 @@ impl<'a> Recording<'a> {
         self.nodes.len() / NODE_BYTES
     }
 
+    /// How many bytes it has.
     pub fn byte_count(&self) -> usize
         ensures { result ≡ length (bytes_in self.now) }
     {
         self.bytes.len()
     }
 
-    /// Node i.
+    /// Node i, which the recording has; `get` tests that.
     pub fn at(&self, i: usize) -> NodeRef<'a>
         requires { i < length (nodes_in self.now) }
         ensures { IsNode self.now i result }
@@ -95,6 +97,7 @@ impl<'a> Recording<'a> {
         ensures there { IsSome result ↔ (i < length (nodes_in self.now)) }
         ensures value { IfSome result (IsNode self.now i) }
     {
+        // With `then`, what is known of a closure that borrows self does not tell its answer.
         if i < self.node_count() {
             Some(self.at(i))
         } else {
@@ -122,11 +125,12 @@ impl<'a> Recording<'a> {
     }
 
     /// The window of so many rows of a node, from a row on, if the recording has them.
-    pub fn window(&self, node: usize, first: u64, rows: u64) -> Option<Window>
+    pub fn window(&self, node: usize, first: u64, rows: u64) -> Option<Window<'a>>
         ensures { Made self.now node first rows result }
     {
-        let all = self.get(node)?.node().rows;
-        if first > all || rows > all - first {
+        let node = self.get(node)?;
+        let all = node.node().rows;
+        if !lies_within(first, rows, all) {
             return None;
         }
         Some(Window { node, first, rows })
@@ -142,20 +146,13 @@ impl<'a> Recording<'a> {
         }
         let mut nodes = self.trees_from(first);
         for column in 0..columns {
+            // With `filter(..).ok_or(..)?` a proof file has no name for what the closure answers.
             match nodes.next() {
                 Some(node) if node.node().rows == rows => {}
                 _ => return Err(Fault::new(Refusal::Column, column, 0)),
             }
         }
         Ok(())
-    }
-
-    /// How many rows of a window are null: every row of a Null.
-    pub fn null_count(&self, w: Window) -> u64
-        requires { Inside (window_in self.now w) }
-        ensures { result ≡ (own_field (shown_in (window_in self.now w))).nulls }
-    {
-        self.at(w.node).nulls_between(w.first, w.rows)
     }
 
     // The number at a place of the bytes.
@@ -182,5 +179,19 @@ impl<'a> Recording<'a> {
             ≡ zeros (rows n (λ i. bit_at (drop place (bytes_in self.now)) (first + i))) }
     {
         count_zeros(&self.bytes[place as usize..], first, n)
+    }
+}
+
+/// How much it has: what a recording holds is its owner's, and no message may give it away.
+impl fmt::Debug for Recording<'_> {
+    ghost use Rattle.std.specs.Prelude.{Some};
+    ghost use Rattle.recording.specs.View.{recording_shown};
+
+    ghost debug_output = { λ recording. Some (recording_shown recording) };
+
+    fn fmt<W: fmt::Write>(&self, f: &mut fmt::Formatter<W>) -> fmt::Result {
+        let nodes = self.node_count();
+        let bytes = self.byte_count();
+        write!(f, "recording of {nodes} nodes and {bytes} bytes")
     }
 }

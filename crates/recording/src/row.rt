@@ -6,7 +6,7 @@ use crate::window::Window;
 use layout::{Kind, Width, read};
 
 /// A row of a node.
-#[derive(Clone, Copy)]
+#[derive(Clone, Copy, Debug, PartialEq, Eq)]
 pub struct Row<'a> {
     pub(crate) node: NodeRef<'a>,
     pub(crate) index: u64,
@@ -17,11 +17,10 @@ impl<'a> Row<'a> {
     ghost use Rattle.std.specs.Prelude.{◌≡◌, ◌+◌, ◌≤◌, true, ◌⊎◌, length};
     ghost use Rattle.layout.specs.Numbers.{unle};
     ghost use Rattle.layout.specs.Rules.{Is, HasOffsets};
-    ghost use Rattle.layout.specs.Windows.{Inside};
     ghost use Rattle.recording.specs.View.{node_of};
     ghost use Rattle.recording.specs.NodeRefs.{IsOffset};
     ghost use Rattle.recording.specs.Rows.{mark_of, flag_of, slot_of, IsString, IsElements};
-    ghost use Rattle.recording.specs.Windows.{window_in, HasStrings, HasElements};
+    ghost use Rattle.recording.specs.Windows.{HasStrings, HasElements};
 
     /// Whether it is valid; a Null has no valid row to ask for.
     pub fn is_valid(&self) -> bool
@@ -29,6 +28,7 @@ impl<'a> Row<'a> {
         ensures { result ≡ mark_of self.now }
     {
         let node = self.node.node();
+        // With `is_none_or`, what is known of a closure that borrows self does not tell its answer.
         match node.bitmap_place() {
             None => true,
             Some(place) => self.node.recording.bit_at(place, node.from + self.index),
@@ -71,38 +71,24 @@ impl<'a> Row<'a> {
         read(slot, width)
     }
 
-    // Where a row of a Bytes or a List begins and ends in the data or among the child's rows.
-    fn bounds_of(&self) -> (u64, u64)
-        requires { (w : Width) × HasOffsets (numbers_of self.now.node) w }
-        ensures first { IsOffset self.now.node self.now.index result.0 }
-        ensures end { IsOffset self.now.node (self.now.index + 1) result.1 }
-        ensures rises { result.0 ≤ result.1 }
-    {
-        (
-            self.node.offset(self.index),
-            self.node.offset(self.index + 1),
-        )
-    }
-
     /// The byte string of a Bytes.
     pub fn string(&self) -> &'a [u8]
         requires { (w : Width) × HasStrings (numbers_of self.now.node) w }
         ensures { IsString self.now result.now }
     {
         let data = self.node.node().data;
-        let (first, end) = self.bounds_of();
+        let (first, end) = self.node.offsets().bounds(self.index);
         &self.node.recording.bytes[(data + first) as usize..(data + end) as usize]
     }
 
     /// The elements of a List: rows of its child.
-    pub fn elements(&self) -> Window
+    pub fn elements(&self) -> Window<'a>
         requires { (w : Width) × HasElements (numbers_of self.now.node) w }
-        ensures rows { IsElements self.now result }
-        ensures inside { Inside (window_in self.now.node.recording result) }
+        ensures { IsElements self.now result }
     {
-        let (first, end) = self.bounds_of();
+        let (first, end) = self.node.offsets().bounds(self.index);
         Window {
-            node: self.node.index + 1,
+            node: self.node.recording.at(self.node.index + 1),
             first,
             rows: end - first,
         }

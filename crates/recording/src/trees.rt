@@ -5,7 +5,8 @@ use crate::node::NodeRef;
 use crate::recording::Recording;
 
 /// The nodes of trees that stand side by side.
-#[derive(Drop)]
+// A number names each, as in a `NodeRef`. `Children` of `opening` is the same walk where a step may be refused.
+#[derive(Debug, Drop)]
 pub struct Trees<'a> {
     pub(crate) recording: Recording<'a>,
     pub(crate) next: usize,

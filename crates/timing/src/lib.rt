@@ -9,6 +9,7 @@ use layout::{bytes_for, count_zeros};
 use recording::Recording;
 
 /// Opens node bytes and bytes; answers the number of the refusal, or 0.
+// No `Result` crosses to C.
 #[unsafe(no_mangle)]
 pub extern "C" fn timing_open<'a>(nodes: &'a [u8], bytes: &'a [u8]) -> u32
     ensures { Told nodes.now bytes.now result }
@@ -20,6 +21,7 @@ pub extern "C" fn timing_open<'a>(nodes: &'a [u8], bytes: &'a [u8]) -> u32
 }
 
 /// How many of n bits, from bit `first` of the bytes on, are 0; 0 if the bytes end before them.
+// No `Option` crosses to C.
 #[unsafe(no_mangle)]
 pub extern "C" fn timing_count_zeros(bytes: &[u8], first: u32, n: u32) -> u64
     ensures { result ≡ zeros_from bytes.now first n }

@@ -1,6 +1,6 @@
-use Rattle.std.proofs.Common.{sym, ◌∙◌, rules}
+use Rattle.std.proofs.Common.{Ok, sym, ◌∙◌, rules}
 use Rattle.layout.specs.Nodes.{nodes_of}
-use Rattle.opening.proofs.Order.{breaks_table, breaks_nesting, breaks_place, breaks_offset, verdict_err, verdict_last, verdict_of, refused}
+use Rattle.opening.proofs.Order.{breaks_table, breaks_nesting, breaks_place, breaks_offset, verdict_err, breaks_key, keeps_all, verdict_of, refused}
 use Rattle.opening.proofs.check.check_node.Goals as goal
 
 pub returns-in_err-subject : goal.returns-in_err-subject
@@ -31,9 +31,18 @@ returns-in_err-ensure-3 c =
     refused s c.args.nodes.now c.args.bytes.now c.args.i c.in_ok-subject.ensures c.from_residual-in_err-ensure-3.result c.in_err-ensure-3.field-0.0 _ (search rules) e.0
     (breaks_offset s (sym c.keeps_nesting.ensures ∙ c.in_ok-ensure.ensures) (sym c.keeps_places.ensures ∙ c.in_ok-ensure-2.ensures) (sym c.keeps_offsets.ensures ∙ e.1))
 
+pub returns-in_err-ensure-4 : goal.returns-in_err-ensure-4
+returns-in_err-ensure-4 c =
+    let s = c.in_ok-subject.subject in
+    let e = c.in_err-ensure-4.ensures in
+    refused s c.args.nodes.now c.args.bytes.now c.args.i c.in_ok-subject.ensures c.from_residual-in_err-ensure-4.result c.in_err-ensure-4.field-0.0 _ (search rules) e.0
+    (breaks_key s (sym c.keeps_nesting.ensures ∙ c.in_ok-ensure.ensures) (sym c.keeps_places.ensures ∙ c.in_ok-ensure-2.ensures) (sym c.keeps_offsets.ensures ∙ c.in_ok-ensure-3.ensures) (sym c.keeps_keys.ensures ∙ e.1))
+
 pub returns : goal.returns
 returns c =
     let s = c.in_ok-subject.subject in
-    verdict_of s c.args.nodes.now c.args.bytes.now c.args.i c.in_ok-subject.ensures c.ensure-4.result
-    (verdict_last s (sym c.keeps_nesting.ensures ∙ c.in_ok-ensure.ensures) (sym c.keeps_places.ensures ∙ c.in_ok-ensure-2.ensures) (sym c.keeps_offsets.ensures ∙ c.in_ok-ensure-3.ensures)
-    c.ensure-4.result (rw c.keeps_keys.ensures at c.ensure-4.ensures))
+    verdict_of s c.args.nodes.now c.args.bytes.now c.args.i c.in_ok-subject.ensures (Ok c.end.result) (
+      keeps_all s (sym c.keeps_nesting.ensures ∙ c.in_ok-ensure.ensures) (sym c.keeps_places.ensures ∙ c.in_ok-ensure-2.ensures) (sym c.keeps_offsets.ensures ∙ c.in_ok-ensure-3.ensures)
+          (sym c.keeps_keys.ensures ∙ c.in_ok-ensure-4.ensures),
+      c.end.ensures,
+    )

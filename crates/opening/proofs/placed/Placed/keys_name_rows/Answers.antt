@@ -1,4 +1,4 @@
-use Rattle.std.proofs.Common.{ℕ, ◌+◌, not, ◌||◌, ltb, drop, ap, ◌∙◌}
+use Rattle.std.proofs.Common.{ℕ, ◌+◌, not, ◌||◌, ltb, drop, ap, ◌∙◌, arith, length-drop}
 use Rattle.layout.specs.declared.node.Node.{Node}
 use Rattle.layout.specs.declared.number.Width.{Width}
 use Rattle.layout.specs.Bits.{bit_at}
@@ -6,32 +6,39 @@ use Rattle.layout.specs.Lists.{every}
 use Rattle.layout.specs.Numbers.{wide, unle}
 use Rattle.layout.specs.Rows.{slot_at}
 use Rattle.layout.specs.Tests.{keyed_below}
+use Rattle.layout.proofs.Lists.{rest_is}
 use Rattle.layout.proofs.Scans.{keys_unmarked, keys_marked}
+use Rattle.opening.proofs.Sliced.{below_is, marked_is}
 use Rattle.opening.proofs.Subjects.{values_stand, width_is, keys_within, marks_within}
 use Rattle.opening.proofs.placed.Placed.keys_name_rows.Goals as goal
 
 pub child-rows-requires : goal.child-rows-requires
 child-rows-requires c = values_stand c.args.self.now c.requires
 
-pub invariant_of-slots-clause-within : goal.invariant_of-slots-clause-within
-invariant_of-slots-clause-within c =
+pub numbers-slots-requires : goal.numbers-slots-requires
+numbers-slots-requires c =
     let w = c.unwrap-width.result in
-    rw c.slots-count.ensures.value (keys_within c.args.self.now c.requires w (width_is c.args.self.now c.requires c.try_from.result w c.try_from.ensures c.unwrap-width.ensures))
+    keys_within c.args.self.now c.requires w (width_is c.args.self.now c.requires c.try_from.result w c.try_from.ensures c.unwrap-width.ensures)
 
-pub invariant_of-slots-in-Some-clause-within : goal.invariant_of-slots-in-Some-clause-within
-invariant_of-slots-in-Some-clause-within c =
-    let w = c.unwrap-width.result in
-    rw c.slots-count.ensures.value (keys_within c.args.self.now c.requires w (width_is c.args.self.now c.requires c.try_from.result w c.try_from.ensures c.unwrap-width.ensures))
+pub slice_bounds-marks-count : goal.slice_bounds-marks-count
+slice_bounds-marks-count c = omega (arith, marks_within c.args.self.now c.requires c.in-Some.place c.in-Some.ensures)
 
-pub invariant_of-marks-clause-within : goal.invariant_of-marks-clause-within
-invariant_of-marks-clause-within c = rw c.slots-count.ensures.value (marks_within c.args.self.now c.requires c.in-Some.place c.in-Some.ensures)
+pub slice_bounds-marks-start : goal.slice_bounds-marks-start
+slice_bounds-marks-start c = omega (arith, marks_within c.args.self.now c.requires c.in-Some.place c.in-Some.ensures)
+
+pub invariant_of-keys-clause-within : goal.invariant_of-keys-clause-within
+invariant_of-keys-clause-within c =
+    let s = c.args.self.now.subject in
+    rw (rest_is c.in-Some.place s.bytes.now, length-drop, c.numbers-slots.ensures.count) (omega (arith, marks_within c.args.self.now c.requires c.in-Some.place c.in-Some.ensures))
 
 pub returns-in-None : goal.returns-in-None
 returns-in-None c =
     let s = c.args.self.now.subject in
     let w : Width = c.unwrap-width.result in
     let size = width_is c.args.self.now c.requires c.try_from.result w c.try_from.ensures c.unwrap-width.ensures in
+    let n = c.numbers-slots.ensures in
     c.all_below.ensures
+    ∙ below_is c.numbers-slots.result s.bytes.now (wide w) s.node (rw n.count n.at) s.node.rows c.min-bound.result n.count
     ∙ ap (λ (b : ℕ). every s.node.rows (λ r. ltb (unle (slot_at s.bytes.now (wide w) s.node r)) b)) c.min-bound.ensures
     ∙ keys_unmarked s.bytes.now s.node (wide w) c.half.result c.child-rows.result.rows c.half.ensures size (keys_within c.args.self.now c.requires w size) c.in-None.ensures
     ∙ ap (λ (n : Node). keyed_below s.bytes.now s.node n.rows) c.child-rows.ensures
@@ -41,7 +48,9 @@ returns-in-Some c =
     let s = c.args.self.now.subject in
     let w : Width = c.unwrap-width.result in
     let size = width_is c.args.self.now c.requires c.try_from.result w c.try_from.ensures c.unwrap-width.ensures in
+    let n = c.numbers-slots.ensures in
     c.all_below-in-Some.ensures
+    ∙ marked_is c.numbers-slots.result s.bytes.now (wide w) s.node (rw n.count n.at) s.node.rows c.min-bound.result c.in-Some.place n.count
     ∙ ap (λ (b : ℕ). every s.node.rows (λ r. not (bit_at (drop c.in-Some.place s.bytes.now) (s.node.from + r)) || ltb (unle (slot_at s.bytes.now (wide w) s.node r)) b)) c.min-bound.ensures
     ∙ keys_marked s.bytes.now s.node (wide w) c.half.result c.child-rows.result.rows c.half.ensures size (keys_within c.args.self.now c.requires w size) c.in-Some.place c.in-Some.ensures
     ∙ ap (λ (n : Node). keyed_below s.bytes.now s.node n.rows) c.child-rows.ensures

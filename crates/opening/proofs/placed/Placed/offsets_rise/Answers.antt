@@ -1,35 +1,37 @@
-use Rattle.std.proofs.Common.{ℕ, ◌+◌, ◌*◌, ap, ◌∙◌, inl, inr}
-use Rattle.layout.specs.Numbers.{wide, unsigned_at}
-use Rattle.layout.specs.Rules.{reach}
+use Rattle.std.proofs.Common.{◌∙◌, ap, arith, add_assoc}
+use Rattle.std.proofs.lemmas.Bool.{eq-eqb}
+use Rattle.std.proofs.lemmas.Grind.{common_steps}
+use Rattle.layout.specs.Numbers.{wide}
 use Rattle.layout.specs.Tests.{rises_to}
-use Rattle.layout.proofs.Scans.{no_rows, last_outside, last_within}
-use Rattle.opening.specs.Subjects.{table_of}
+use Rattle.layout.proofs.Scans.{no_rows}
+use Rattle.opening.proofs.Sliced.{offsets_tell}
 use Rattle.opening.proofs.Subjects.{offsets_within}
 use Rattle.opening.proofs.placed.Placed.offsets_rise.Goals as goal
 
-pub returns-then-node-eq0 : goal.returns-then-node-eq0
-returns-then-node-eq0 c =
-    let s = c.args.self.now.subject in
-    no_rows s.bytes.now (wide c.args.width) s.node (reach s.kind (table_of s) s.index) c.if-node-eq0.true
+pub numbers-offsets-requires : goal.numbers-offsets-requires
+numbers-offsets-requires c = rw add_assoc at (offsets_within c.args.self.now c.args.width c.requires)
 
-pub invariant_of-offsets-clause-within : goal.invariant_of-offsets-clause-within
-invariant_of-offsets-clause-within c = rw c.slots-rows.ensures.value (offsets_within c.args.self.now c.args.width c.requires)
-
-pub returns-then-last-half : goal.returns-then-last-half
-returns-then-last-half c =
+pub returns-then-rows-eq0 : goal.returns-then-rows-eq0
+returns-then-rows-eq0 c =
     let s = c.args.self.now.subject in
+    eq-eqb s.node.rows 0 c.if-rows-eq0.true ∙ no_rows s.bytes.now (wide c.args.width) s.node _ c.if-rows-eq0.true
+
+pub returns-then-last-most : goal.returns-then-last-most
+returns-then-last-most c =
+    let s = c.args.self.now.subject in
+    let n = c.numbers-offsets.ensures in
     let w = wide c.args.width in
-    let last = c.number-last.ensures ∙ ap (λ (n : ℕ). unsigned_at s.bytes.now (s.node.slots + n * wide c.args.width) c.args.width) c.slots-rows.ensures.value in
-    last_outside s.bytes.now w s.node c.reach-most.result c.half.result c.half.ensures c.if-node-eq0.false
-    (offsets_within c.args.self.now c.args.width c.requires) c.number-last.result last (elim c.then-last-half.either [ inl a ↦ inl a | inr a ↦ inr a.1 ])
-    ∙ ap (rises_to s.bytes.now w s.node) c.reach-most.ensures
+    let told = offsets_tell c.numbers-offsets.result s.bytes.now w s.node (rw n.count n.at) c.reach-most.result c.half.result c.half.ensures
+    (offsets_within c.args.self.now c.args.width c.requires) n.count
+    ∙ ap (rises_to s.bytes.now w s.node) c.reach-most.ensures in
+    grind (arith, common_steps)
 
-pub returns : goal.returns
-returns c =
+pub returns-else-last-most : goal.returns-else-last-most
+returns-else-last-most c =
     let s = c.args.self.now.subject in
+    let n = c.numbers-offsets.ensures in
     let w = wide c.args.width in
-    let last = c.number-last.ensures ∙ ap (λ (n : ℕ). unsigned_at s.bytes.now (s.node.slots + n * wide c.args.width) c.args.width) c.slots-rows.ensures.value in
-    c.rises.ensures
-    ∙ last_within s.bytes.now w s.node c.reach-most.result c.half.result c.half.ensures c.if-node-eq0.false
-    (offsets_within c.args.self.now c.args.width c.requires) c.number-last.result last c.if-last-half.false c.if-last-most.false
-    ∙ ap (rises_to s.bytes.now w s.node) c.reach-most.ensures
+    let told = offsets_tell c.numbers-offsets.result s.bytes.now w s.node (rw n.count n.at) c.reach-most.result c.half.result c.half.ensures
+    (offsets_within c.args.self.now c.args.width c.requires) n.count
+    ∙ ap (rises_to s.bytes.now w s.node) c.reach-most.ensures in
+    grind (arith, common_steps)

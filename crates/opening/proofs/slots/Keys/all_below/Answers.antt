@@ -1,4 +1,4 @@
-use Rattle.std.proofs.Common.{arith}
+use Rattle.std.proofs.Common.{◌*◌, arith}
 use Rattle.std.proofs.lemmas.Grind.{common_steps}
 use Rattle.opening.specs.Scans.{marked_below}
 use Rattle.opening.proofs.Flagged.{joined}
@@ -6,10 +6,12 @@ use Rattle.opening.proofs.slots.Keys.all_below.Goals as goal
 
 pub returns-then-byte_by_byte : goal.returns-then-byte_by_byte
 returns-then-byte_by_byte c =
-    let all = joined (marked_below c.args.self.now) c.args.from c.args.rows c.among-parts.result c.among-parts.ensures.before c.among-parts.ensures.bytes c.among-parts.ensures.all in
+    let p = c.among-parts.result in
+    let all = joined (marked_below c.args.self.now) p.before (8 * p.bytes) p.after c.args.self.now.slots.count c.among-parts.ensures.all in
     grind (arith, common_steps)
 
 pub returns-else-byte_by_byte : goal.returns-else-byte_by_byte
 returns-else-byte_by_byte c =
-    let all = joined (marked_below c.args.self.now) c.args.from c.args.rows c.among-parts.result c.among-parts.ensures.before c.among-parts.ensures.bytes c.among-parts.ensures.all in
+    let p = c.among-parts.result in
+    let all = joined (marked_below c.args.self.now) p.before (8 * p.bytes) p.after c.args.self.now.slots.count c.among-parts.ensures.all in
     grind (arith, common_steps)

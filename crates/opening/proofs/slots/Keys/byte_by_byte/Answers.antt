@@ -6,5 +6,5 @@ use Rattle.opening.proofs.slots.Keys.byte_by_byte.Goals as goal
 
 pub returns : goal.returns
 returns c =
-    c.every.ensures (λ j. every 8 (λ t. marked_below c.args.self.now (8 * (c.args.first + j) + t))) (search rules)
-    ∙ every_eights c.args.count c.args.first (marked_below c.args.self.now)
+    c.every.ensures (λ j. every 8 (λ t. marked_below c.args.self.now (c.args.from + 8 * j + t))) (search rules)
+    ∙ every_eights c.args.bytes c.args.from (marked_below c.args.self.now)

@@ -18,17 +18,17 @@ loop-child-init c =
 
 pub loop-child-preserved : goal.loop-child-preserved
 loop-child-preserved c =
-    along_more c.args.self.now c.loop-child.child-iterator c.loop-child.count c.loop-child.invariant c.in-Some-child.child c.next.new.self
-    (rw c.in-Some-child.is at c.in-Some.ensures.steps) c.if-not-rows_agree.ensures
+    along_more c.args.self.now c.loop-child.child-iterator c.loop-child.count c.loop-child.invariant c.in-Ok.child c.next.new.self
+    (rw c.in-Ok.is at c.in-Some.ensures.steps) c.if-not-rows_agree.ensures
 
 pub returns-in_default : goal.returns-in_default
 returns-in_default c =
-    along_unfit c.args.self.now c.loop-child.child-iterator c.loop-child.count c.loop-child.invariant c.next.new.self (rw c.in_default.is at c.in-Some.ensures.steps)
+    along_unfit c.args.self.now c.loop-child.child-iterator c.loop-child.count c.loop-child.invariant _ c.next.new.self (rw c.in_default.is at c.in-Some.ensures.steps)
 
 pub returns-then-not-rows_agree : goal.returns-then-not-rows_agree
 returns-then-not-rows_agree c =
-    along_rows c.args.self.now c.loop-child.child-iterator c.loop-child.count c.loop-child.invariant c.in-Some-child.child c.next.new.self
-    (rw c.in-Some-child.is at c.in-Some.ensures.steps) c.if-not-rows_agree.ensures
+    along_rows c.args.self.now c.loop-child.child-iterator c.loop-child.count c.loop-child.invariant c.in-Ok.child c.next.new.self
+    (rw c.in-Ok.is at c.in-Some.ensures.steps) c.if-not-rows_agree.ensures
 
 pub returns : goal.returns
 returns c =
