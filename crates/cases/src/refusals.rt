@@ -16,25 +16,11 @@ fn told<'x>(nodes: &'x [u8], bytes: &'x [u8]) -> Told {
         .map_err(|fault| (fault.number(), fault.node))
 }
 
-// What the words of a text spell. A loop, since `try_collect` asks that `read` may be called at what `map` was given.
-fn words<T: Drop, F: Fn(&str) -> Result<T, Fail>>(
-    heap: Global,
-    text: &str,
-    read: F,
-) -> Result<Vec<T>, Fail>
-    requires { F.IsAlwaysCallable read }
-{
-    let mut all = Vec::new(heap);
-    for word in text.split_whitespace() {
-        all.push(read(word)?)?;
-    }
-    Ok(all)
-}
-
+// What is read of a word is all that these two differ in; a function that took it would ask where it may be called.
 pub(crate) fn numbers(heap: Global, text: &str) -> Result<Vec<u64>, Fail> {
-    words(heap, text, |word| -> Result<u64, Fail> {
-        Ok(word.parse::<u64>()?)
-    })
+    text.split_whitespace()
+        .map(|word| -> Result<u64, Fail> { Ok(word.parse::<u64>()?) })
+        .try_collect(heap)
 }
 
 fn node(heap: Global, text: &str) -> Result<Node, Fail> {
@@ -45,6 +31,7 @@ fn node(heap: Global, text: &str) -> Result<Node, Fail> {
     Ok(Node::from(ten))
 }
 
+// This, `nulls` and `nested` differ in the nodes that they append; to hand these over would be as long.
 pub(crate) fn nodes(heap: Global, text: &str) -> Result<Vec<u8>, Fail> {
     let mut all = Vec::new(heap);
     for part in text.split(',') {
@@ -54,9 +41,9 @@ pub(crate) fn nodes(heap: Global, text: &str) -> Result<Vec<u8>, Fail> {
 }
 
 pub(crate) fn bytes(heap: Global, text: &str) -> Result<Vec<u8>, Fail> {
-    words(heap, text, |pair| -> Result<u8, Fail> {
-        Ok(u8::from_str_radix(pair, 16)?)
-    })
+    text.split_whitespace()
+        .map(|pair| -> Result<u8, Fail> { Ok(u8::from_str_radix(pair, 16)?) })
+        .try_collect(heap)
 }
 
 // What a line of the table expects: a refusal's number and node, or 0 and 0 where the recording opens.

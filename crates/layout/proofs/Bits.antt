@@ -1,30 +1,33 @@
 -- Bits of bytes.
-use Rattle.std.proofs.Common.{◌≡◌, ℕ, zero, suc, ◌+◌, ◌*◌, ◌/◌, ◌%◌, ◌^◌, ◌<◌, ◌≤◌, Bool, true, false, cond, not, ◌&&◌, ◌||◌, eqb, List, [], ◌∷◌, sym, refl, ap, ◌∙◌, ap₂, mod-eq_of_lt, suc-mul, add_comm, pow-suc, zero-mul, add-one, arith}
+use Rattle.std.proofs.Common.{◌≡◌, ℕ, zero, suc, ◌+◌, ◌*◌, ◌/◌, ◌%◌, ◌^◌, ◌<◌, ◌≤◌, Bool, true, false, cond, not, ◌&&◌, ◌||◌, eqb, List, ◌∷◌, count_by, sym, refl, ap, ◌∙◌, ap₂, mod-eq_of_lt, suc-mul, add_comm, pow-suc, zero-mul, arith}
 use lib.Bits.{bit_and}
 use mir.Val.{bool_byte}
+use Rattle.std.specs.List.{range_with_len}
 use Rattle.std.proofs.lemmas.Nat.{pow_pos, shr_split, shr_high, mod_low, and_le_l, and_comm, and_mask, and_shr, and_mod, mul-le}
 use Rattle.std.proofs.lemmas.Bool.{and_right, eq-eqb, ne_eqb}
+use Rattle.std.proofs.lemmas.List.Sums.{sum_by-cons}
 use Rattle.layout.specs.Lists.{rows, every}
 use Rattle.layout.proofs.Every.{turned}
-use Rattle.layout.specs.Bits.{bit_of, zeros, flags}
+use Rattle.layout.proofs.Lists.{rows_same}
+use Rattle.layout.specs.Bits.{bit_of, zeros}
 
 pub zeros_first : (b : Bool) (bs : List Bool) → zeros (b ∷ bs) ≡ cond b 0 1 + zeros bs
 zeros_first true bs = omega arith
 zeros_first false bs = omega arith
 
-zeros_last : (n : ℕ) (f : ℕ → Bool) → zeros (rows (suc n) f) ≡ zeros (rows n f) + cond (f n) 0 1
-zeros_last zero f = zeros_first (f 0) [] ∙ omega arith
-zeros_last (suc n) f =
-    let a = zeros_first (f 0) (rows (suc n) (λ i. f (suc i))) in
-    let b = zeros_first (f 0) (rows n (λ i. f (suc i))) in
-    let c = zeros_last n (λ i. f (suc i)) in
-    omega arith
-
--- one bit more
-pub zeros_more : (n m : ℕ) (f : ℕ → Bool) (b : Bool) (k : ℕ) → m ≡ zeros (rows n f) → b ≡ f n → k ≡ bool_byte (not b) → m + k ≡ zeros (rows (n + 1) f)
-zeros_more n m f b k e g h = rw (add-one, e, h, g) (ap (λ (x : ℕ). zeros (rows n f) + x) (flipped (f n)) ∙ sym (zeros_last n f))
+-- they are the numbers of a range whose bit is 0
+pub zeros_by : (n a : ℕ) (f : ℕ → Bool) → count_by (λ i. not (f i)) (range_with_len a n) ≡ zeros (rows n (λ i. f (a + i)))
+zeros_by zero a f = refl
+zeros_by (suc n) a f =
+    let here : f a ≡ f (a + 0) = ap f (omega arith) in
+    let later : rows n (λ i. f (a + 1 + i)) ≡ rows n (λ i. f (a + suc i)) = rows_same n (λ i. f (a + 1 + i)) (λ i. f (a + suc i)) (λ i l. ap f (omega arith)) in
+    let one : ℕ → ℕ = λ i. cond (not (f i)) 1 0 in
+    let flag : Bool → ℕ = λ b. cond b 0 1 in
+    sum_by-cons one a (range_with_len (a + 1) n)
+    ∙ ap₂ ◌+◌ (flipped (f a) ∙ ap flag here) (zeros_by n (a + 1) f ∙ ap zeros later)
+    ∙ sym (zeros_first (f (a + 0)) (rows n (λ i. f (a + suc i))))
   where
-    flipped : (b : Bool) → bool_byte (not b) ≡ cond b 0 1
+    flipped : (b : Bool) → cond (not b) (suc zero) zero ≡ cond b zero (suc zero)
     flipped true = refl
     flipped false = refl
 
@@ -33,6 +36,11 @@ one_at_most true = omega arith
 one_at_most false = omega arith
 
 -- ---- flags against a mask
+
+-- n flags as a number, the first the lowest bit
+abbrev pub flags : ℕ → (ℕ → Bool) → ℕ
+flags zero f = 0
+flags (suc n) f = flags n f + bool_byte (f n) * 2 ^ n
 
 pub flags_small : (n : ℕ) (f : ℕ → Bool) → flags n f < 2 ^ n
 flags_small zero f = omega arith

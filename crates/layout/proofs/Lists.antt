@@ -3,7 +3,7 @@ use Rattle.std.proofs.Common.{◌≡◌, ℕ, zero, suc, ◌+◌, ◌-◌, ◌<�
 use lib.Seq.{take-append-le}
 use Rattle.std.proofs.lemmas.List.{drop-take}
 use Rattle.std.proofs.lemmas.Slice.{between_is}
-use Rattle.layout.specs.Lists.{rows, cut, put}
+use Rattle.layout.specs.Lists.{rows, cut}
 
 pub rows_same : {X : Type 0} (n : ℕ) (f g : ℕ → X) → ((r : ℕ) → r < n → f r ≡ g r) → rows n f ≡ rows n g
 rows_same zero f g h = refl
@@ -21,6 +21,10 @@ length-rows (suc n) f = ap suc (length-rows n (λ i. f (suc i)))
 
 pub length_cut : {X : Type 0} (k w : ℕ) (bs : List X) → k + w ≤ length bs → length (cut k w bs) ≡ w
 length_cut k w bs h = length-take-le w (drop k bs) (simp length-drop (omega arith))
+
+-- ys stands at place p, and all else is as it was
+abbrev pub put : {X : Type 0} → ℕ → List X → List X → List X
+put p ys xs = take p xs ++ (ys ++ drop (p + length ys) xs)
 
 -- what stands before the part that was put is as it was
 pub cut_before : {X : Type 0} (q w p : ℕ) (ys xs : List X) → q + w ≤ p → p ≤ length xs → cut q w (put p ys xs) ≡ cut q w xs

@@ -5,10 +5,10 @@ use Rattle.std.proofs.lemmas.List.{drop_at, drop-drop, take-append-le}
 use Rattle.std.proofs.lemmas.Bool.{cases_eq}
 use Rattle.layout.specs.declared.node.Node.{Node}
 use Rattle.layout.specs.declared.number.Width.TheVariants.{Eight}
-use Rattle.layout.specs.Lists.{cut, put}
+use Rattle.layout.specs.Lists.{cut}
 use Rattle.layout.specs.Numbers.{unle, unsigned_at}
 use Rattle.layout.specs.Nodes.{node_in, nodes_of, numbers_of, zero_node, node_at}
-use Rattle.layout.proofs.Lists.{length-rows, get_or_rows, cut_before, length-put, rest_is}
+use Rattle.layout.proofs.Lists.{length-rows, get_or_rows, put, cut_before, length-put, rest_is}
 
 pub length-nodes : (nb : List ℕ) → length (nodes_of nb) ≡ length nb / 80
 unfolding nodes_of

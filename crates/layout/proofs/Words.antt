@@ -1,5 +1,5 @@
 -- Bits that are 0, counted by bytes and by words.
-use Rattle.std.proofs.Common.{◌≡◌, ℕ, zero, suc, ◌+◌, ◌-◌, ◌*◌, ◌/◌, ◌%◌, ◌^◌, ◌<◌, ◌≤◌, min, Bool, true, false, cond, eqb, List, [], ◌∷◌, ◌++◌, length, get_or, take, drop, sum_by, sym, refl, ap, ◌∙◌, ap₂, mul_comm, add_comm, pow-suc, arith, length-drop, length-take-le, get_or-drop, take_all, get_or-take, drop-drop}
+use Rattle.std.proofs.Common.{◌≡◌, ℕ, zero, suc, ◌+◌, ◌-◌, ◌*◌, ◌/◌, ◌%◌, ◌^◌, ◌<◌, ◌≤◌, min, Bool, true, false, cond, eqb, List, [], ◌∷◌, ◌++◌, length, get_or, take, drop, not, count_by, sum_by, sym, refl, ap, ◌∙◌, ap₂, mul_comm, add_comm, pow-suc, arith, length-drop, length-take-le, get_or-drop, take_all, get_or-take, drop-drop}
 use native.Mathlib.Nat.{div-div-eq-div-mul}
 use lib.Count.{ones, ones_step, ones_cat}
 use Rattle.std.specs.Simd.{first_chunks}
@@ -9,7 +9,10 @@ use Rattle.layout.specs.Bits.{bit_of, bit_at, zeros, zeros_in}
 use Rattle.layout.specs.Numbers.{unle}
 use Rattle.layout.proofs.Lists.{rows_same, length-rows}
 use Rattle.layout.proofs.Numbers.{read_8}
-use Rattle.layout.proofs.Bits.{zeros_first}
+use Rattle.layout.proofs.Bits.{zeros_first, zeros_by}
+use Rattle.layout.specs.declared.bit.BitSlice.{BitSlice}
+use Rattle.layout.specs.BitSlices.{bit_in, IsPart}
+use Rattle.std.specs.List.{range_with_len}
 
 -- ---- splitting a row
 
@@ -171,15 +174,23 @@ zeros_whole bs s q k edge h =
 
 -- bits up to a byte's edge, whole bytes from q up to e, and bits after them
 pub zeros_three : (bs : List ℕ) (s n a w b q e k : ℕ) → a ≡ min n ((8 - s % 8) % 8) → w ≡ (n - a) / 8 → a + 8 * w + b ≡ n → q ≡ (s + a) / 8 → e ≡ q + w → k ≡ e - q → e ≤ length bs
-    → zeros (rows a (λ i. bit_at bs (s + i))) + zeros_in (take k (drop q bs)) + zeros (rows b (λ i. bit_at bs (8 * e + i)))
+    → zeros (rows a (λ i. bit_at bs (s + (0 + i)))) + zeros_in (take k (drop q bs)) + zeros (rows b (λ i. bit_at bs (s + (a + 8 * w + i))))
     ≡ zeros (rows n (λ i. bit_at bs (s + i)))
 zeros_three bs s n a w b q e k front whole all start end count h =
     let g : ℕ → Bool = λ i. bit_at bs (s + i) in
     let same : k ≡ w = omega arith in
     let one = zeros_add (a + 8 * w) b g in
     let two = zeros_add a (8 * w) g in
+    let before = ap zeros (rows_same a (λ i. g (0 + i)) g (λ i l. ap g (omega arith))) in
     let mid = zeros_whole bs (s + a) q k (λ l. omega arith) (omega arith)
     ∙ ap (λ (k : ℕ). zeros (rows (8 * k) (λ i. bit_at bs (s + a + i)))) same
     ∙ ap zeros (rows_same (8 * w) (λ i. bit_at bs (s + a + i)) (λ i. g (a + i)) (λ i l. ap (bit_at bs) (omega arith))) in
-    let last = ap zeros (rows_same b (λ i. bit_at bs (8 * e + i)) (λ i. g (a + 8 * w + i)) (λ i l. ap (bit_at bs) (omega arith))) in
     rw (← all) (omega arith)
+
+-- the bits of a part that are 0, counted one by one
+pub part_zeros : (b p : BitSlice) (k n m : ℕ) → IsPart b k n p → m ≡ count_by (λ i. not (bit_in p i)) (range_with_len 0 p.len) → m ≡ zeros (rows n (λ i. bit_in b (k + i)))
+part_zeros b p k n m (bytes, first, len) e =
+    e
+    ∙ zeros_by p.len 0 (bit_in p)
+    ∙ ap (λ (n : ℕ). zeros (rows n (λ i. bit_in p (0 + i)))) len
+    ∙ ap zeros (rows_same n (λ i. bit_in p (0 + i)) (λ i. bit_in b (k + i)) (λ i l. ap₂ bit_at bytes (omega arith)))

@@ -33,8 +33,3 @@ zeros (false ∷ bs) = suc (zeros bs)
 -- how many bits of whole bytes are 0
 abbrev pub zeros_in : List ℕ → ℕ
 zeros_in bs = zeros (rows (8 * length bs) (bit_at bs))
-
--- n flags as a number, the first the lowest bit
-abbrev pub flags : ℕ → (ℕ → Bool) → ℕ
-flags zero f = 0
-flags (suc n) f = flags n f + bool_byte (f n) * 2 ^ n

@@ -2,6 +2,7 @@ pub mod Lists
 pub mod Numbers
 pub mod Spelling
 pub mod Bits
+pub mod BitSlices
 pub mod Faults
 pub mod Kinds
 pub mod Nodes

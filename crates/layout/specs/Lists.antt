@@ -10,10 +10,6 @@ rows (suc n) f = f 0 ∷ rows n (λ i. f (suc i))
 abbrev pub cut : {X : Type 0} → ℕ → ℕ → List X → List X
 cut a c xs = take c (drop a xs)
 
--- ys stands at place p, and all else is as it was
-abbrev pub put : {X : Type 0} → ℕ → List X → List X → List X
-put p ys xs = take p xs ++ (ys ++ drop (p + length ys) xs)
-
 -- the lists one after another
 abbrev pub join_all : {X : Type 0} → List (List X) → List X
 join_all [] = []

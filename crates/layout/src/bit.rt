@@ -34,33 +34,63 @@ impl WholeBytes {
     }
 }
 
-/// How many of n bits, from bit `first` on, are 0.
-pub fn count_zeros(bytes: &[u8], first: u64, n: u64) -> u64
-    requires few { first + n < 2 ^ 64 }
-    requires within { bytes_for (first + n) ≤ length bytes.now }
-    ensures { result ≡ zeros (rows n (λ i. bit_at bytes.now (first + i))) }
-{
-    // Bytes that are filled go by words; only the bits before and after them go one by one.
-    let parts = WholeBytes::among(first, n);
-    let from = (first + parts.before) / 8;
-    let to = from + parts.bytes;
-    count_zeros_by_bit(bytes, first, parts.before)
-        + count_zeros_in_bytes(&bytes[from as usize..to as usize])
-        + count_zeros_by_bit(bytes, 8 * to, parts.after)
+/// So many bits of bytes, from bit `first` on: a slice of bytes begins at a byte, and bits may begin within one.
+// No `Debug`: it would print bytes of a recording.
+#[derive(Clone, Copy)]
+pub struct BitSlice<'a> {
+    pub bytes: &'a [u8],
+    pub first: u64,
+    pub len: u64,
+    ghost few: { first + len < 2 ^ 64 },
+    ghost within: { bytes_for (first + len) ≤ length bytes.now },
 }
 
-// The same, bit by bit. `filter` and `count` over the range leave the count open.
-fn count_zeros_by_bit(bytes: &[u8], first: u64, n: u64) -> u64
-    requires few { first + n < 2 ^ 64 }
-    requires within { bytes_for (first + n) ≤ length bytes.now }
-    ensures count { result ≡ zeros (rows n (λ i. bit_at bytes.now (first + i))) }
-    ensures most { result ≤ n }
-{
-    let mut count = 0;
-    for i in 0..n {
-        count += u64::from(!read_bit(bytes, first + i));
+impl<'a> BitSlice<'a> {
+    ghost use Rattle.std.specs.Prelude.{not, count_by};
+    ghost use Rattle.std.specs.List.{range_with_len};
+    ghost use Rattle.layout.specs.BitSlices.{bit_in, bits_in, IsPart};
+
+    /// So many of them, from bit `from` of them on.
+    pub fn part(&self, from: u64, len: u64) -> BitSlice<'a>
+        requires { from + len ≤ self.now.len }
+        ensures { IsPart self.now from len result }
+    {
+        BitSlice {
+            bytes: self.bytes,
+            first: self.first + from,
+            len,
+        }
     }
-    count
+
+    /// Whether bit i of them is 1.
+    pub fn is_set(&self, i: u64) -> bool
+        requires { i < self.now.len }
+        ensures { result ≡ bit_in self.now i }
+    {
+        read_bit(self.bytes, self.first + i)
+    }
+
+    /// How many of them are 0.
+    pub fn count_zeros(&self) -> u64
+        ensures { result ≡ zeros (bits_in self.now) }
+    {
+        // Bytes that are filled go by words; only the bits before and after them go one by one.
+        let parts = WholeBytes::among(self.first, self.len);
+        let from = (self.first + parts.before) / 8;
+        let to = from + parts.bytes;
+        let before = self.part(0, parts.before);
+        let whole = &self.bytes[from as usize..to as usize];
+        let after = self.part(parts.before + 8 * parts.bytes, parts.after);
+        before.count_zeros_by_bit() + count_zeros_in_bytes(whole) + after.count_zeros_by_bit()
+    }
+
+    // The same, bit by bit.
+    fn count_zeros_by_bit(&self) -> u64
+        ensures count { result ≡ count_by (λ i. not (bit_in self.now i)) (range_with_len 0 self.now.len) }
+        ensures most { result ≤ self.now.len }
+    {
+        (0..self.len).filter(|i| !self.is_set(*i)).count() as u64
+    }
 }
 
 // How many bits of whole bytes are 0.

@@ -105,6 +105,7 @@ impl From<Refusal> for Fault {
 }
 
 /// Its numbers; the words are those of its refusal.
+// `thiserror` would write it with no contract.
 impl fmt::Display for Fault {
     ghost output = { λ fault. Some (fault_shown fault) };
 

@@ -98,6 +98,7 @@ impl Kind {
             Kind::Null | Kind::Struct => None,
             Kind::Boolean => Some(bytes_for(slots)),
             Kind::Fixed | Kind::Dictionary => Some(slots * size),
+            // By their numbers, as the table of kinds has them; `offset_width` would be asked outside the table.
             Kind::Bytes32 | Kind::List32 => Some((slots + 1) * 4),
             Kind::Bytes64 | Kind::List64 => Some((slots + 1) * 8),
         }

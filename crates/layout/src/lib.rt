@@ -9,7 +9,7 @@ mod kind;
 mod node;
 mod number;
 
-pub use bit::{WholeBytes, bytes_for, count_zeros, read_bit};
+pub use bit::{BitSlice, WholeBytes, bytes_for, read_bit};
 pub use fault::{Fault, Refusal};
 pub use kind::Kind;
 pub use node::{MOST_ROWS, NODE_BYTES, NODE_NUMBERS, Node, lies_within};

@@ -1,7 +1,12 @@
-ghost use Rattle.std.specs.Prelude.{◌≡◌, ℕ, ◌+◌, ◌/◌, ◌<◌, length, nat_le};
+ghost use Rattle.std.specs.Prelude.{◌≡◌, ℕ, ◌+◌, ◌/◌, ◌^◌, ◌<◌, length, nat_le};
+ghost use Rattle.layout.specs.Bits.{bytes_for};
+ghost use Rattle.layout.specs.BitSlices.{AreBits};
 ghost use Rattle.layout.specs.Nodes.{nodes_of, node_at, node_in, numbers_of, bitmap_of};
+ghost use Rattle.layout.specs.Rules.{Lies};
 
+use crate::bit::BitSlice;
 use crate::number::{Width, read, write};
+use std::array;
 
 /// How many numbers make a node.
 pub const NODE_NUMBERS: usize = 10;
@@ -101,12 +106,7 @@ impl Node {
         ensures { result ≡ node_at (nodes_of table.now) i }
     {
         let bytes = &table[i * NODE_BYTES..];
-        // `array::from_fn` would do, but what its closure captures is not known to stay.
-        let mut numbers = [0; NODE_NUMBERS];
-        for (k, number) in numbers.iter_mut().enumerate() {
-            *number = read(&bytes[8 * k..], Width::Eight);
-        }
-        Node::from(numbers)
+        Node::from(array::from_fn(|k| read(&bytes[8 * k..], Width::Eight)))
     }
 
     /// Where its bitmap stands; a node without one has every row valid.
@@ -114,6 +114,19 @@ impl Node {
         ensures { result ≡ bitmap_of self.now }
     {
         self.bitmap.checked_sub(1)
+    }
+
+    /// A bit for each of its rows, in the bytes from a place on.
+    pub fn bits<'a>(&self, bytes: &'a [u8], place: u64) -> BitSlice<'a>
+        requires few { self.now.from + self.now.rows < 2 ^ 64 }
+        requires within { Lies bytes.now place (bytes_for (self.now.from + self.now.rows)) }
+        ensures { AreBits self.now bytes.now place result }
+    {
+        BitSlice {
+            bytes: &bytes[place as usize..],
+            first: self.from,
+            len: self.rows,
+        }
     }
 
     /// The eighty bytes that spell it.

@@ -90,6 +90,7 @@ impl Number for u64 {
     }
 
     fn low(self) -> u64 {
+        // It is unsigned already.
         self
     }
 }

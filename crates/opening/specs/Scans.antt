@@ -1,19 +1,13 @@
--- What stands in slots and bitmaps, and what a scan of keys under a bitmap tests.
-use Rattle.std.specs.Prelude.{ℕ, ◌+◌, ◌*◌, Bool, not, ◌||◌, nat_lt}
-use Rattle.layout.specs.Bits.{bit_at}
-use Rattle.layout.specs.Numbers.{wide, unsigned_at}
-use Rattle.opening.specs.declared.slots.Slots.{Slots}
-use Rattle.opening.specs.declared.slots.Marks.{Marks}
-use Rattle.opening.specs.declared.slots.Keys.{Keys}
+-- What a scan tests, from the first number on.
+use Rattle.std.specs.Prelude.{ℕ, ◌*◌, ◌%◌, ◌^◌, Bool, true, ◌&&◌}
+use Rattle.std.specs.Int.Bits.{bit_or}
+use Rattle.std.specs.List.{fold, range_with_len}
+use mir.Val.{bool_byte}
 
--- the number in slot k
-abbrev pub slot_number : Slots → ℕ → ℕ
-slot_number s k = unsigned_at s.bytes.now (k * wide s.width) s.width
+-- each number below n passes
+abbrev pub every_in : ℕ → (ℕ → Bool) → Bool
+every_in n p = fold (λ ok k. ok && p k) true (range_with_len 0 n)
 
--- the bit of row k is 1
-abbrev pub is_marked : Marks → ℕ → Bool
-is_marked m k = bit_at m.bytes.now (m.first + k)
-
--- the key of row k is below the bound, or its bit is 0
-abbrev pub marked_below : Keys → ℕ → Bool
-marked_below keys k = not (is_marked keys.marks k) || nat_lt (slot_number keys.slots k) keys.bound
+-- flag n beside those before it, as bits of a byte
+abbrev pub flagged : (ℕ → Bool) → ℕ → ℕ → ℕ
+flagged f over n = bit_or over ((bool_byte (f n) * 2 ^ n) % 256)

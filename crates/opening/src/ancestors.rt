@@ -7,7 +7,7 @@ use std::marker::Model;
 
 /// Where the nodes end that a walk over a table stands below, the innermost last.
 #[derive(Drop)]
-pub struct Ancestors {
+pub(crate) struct Ancestors {
     ends: ArrayVec<usize, MOST_DEEP>,
 }
 
@@ -18,7 +18,7 @@ impl Model for Ancestors {
 }
 
 impl Ancestors {
-    pub fn new() -> Ancestors
+    pub(crate) fn new() -> Ancestors
         ensures { result ≡ [] }
     {
         Ancestors {
@@ -27,7 +27,7 @@ impl Ancestors {
     }
 
     /// How many they are.
-    pub fn len(&self) -> usize
+    pub(crate) fn len(&self) -> usize
         ensures number { result ≡ length self.now }
         ensures few { result ≤ 64 }
     {
@@ -35,7 +35,7 @@ impl Ancestors {
     }
 
     /// Leaves the innermost ones that end before node i or at it.
-    pub fn leave(&mut self, i: usize)
+    pub(crate) fn leave(&mut self, i: usize)
         ensures { Leaves i self.old self.new }
     {
         while self.ends.last().is_some_and(|end| *end <= i) {
@@ -44,7 +44,7 @@ impl Ancestors {
     }
 
     /// Enters a node that ends at `end`.
-    pub fn enter(&mut self, end: usize)
+    pub(crate) fn enter(&mut self, end: usize)
         requires { length self.old < 64 }
         ensures { self.new ≡ self.old ++ end ∷ [] }
     {

@@ -8,14 +8,20 @@ use crate::subject::{Subject, ensure};
 use layout::Refusal;
 
 /// Where node i ends, or the rule of smallest number that it breaks, given its depth.
-pub fn check_node(nodes: &[u8], bytes: &[u8], i: usize, depth: usize) -> Result<usize, Refusal>
+pub(crate) fn check_node(
+    nodes: &[u8],
+    bytes: &[u8],
+    i: usize,
+    depth: usize,
+) -> Result<usize, Refusal>
+    // A type for the table would ask the same of i.
     requires few { length nodes.now / 80 ≤ 65535 }
     requires stands { i < length nodes.now / 80 }
     requires deep { depth ≡ depth_of (nodes_of nodes.now) i }
     ensures { NodeVerdict (nodes_of nodes.now) bytes.now i result }
 {
     let subject = Subject::new(nodes, bytes, i, depth)?;
-    ensure(subject.keeps_nesting(), Refusal::Nesting)?;
+    subject.check_nesting()?;
     ensure(subject.keeps_places(), Refusal::Place)?;
     let placed = Placed { subject };
     ensure(placed.keeps_offsets(), Refusal::Offset)?;

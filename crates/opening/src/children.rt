@@ -5,7 +5,7 @@ ghost use Rattle.layout.specs.Tests.{spans_within};
 use layout::{Node, Refusal};
 
 /// Whether a tree has a span, and lies within so many nodes.
-pub fn spans_within(node: Node, room: u64) -> bool
+pub(crate) fn spans_within(node: Node, room: u64) -> bool
     ensures { result ≡ spans_within node room }
 {
     node.span != 0 && node.span <= room
@@ -13,8 +13,9 @@ pub fn spans_within(node: Node, room: u64) -> bool
 
 /// The nodes that stand side by side from one place of a table up to another, each a span after the one before. One that
 /// has no span or passes the end is refused, and is the last.
+// By numbers, since the table is the host's. `Trees` of `recording` is the same walk where no step can be refused.
 #[derive(Drop)]
-pub struct Children<'a> {
+pub(crate) struct Children<'a> {
     pub nodes: &'a [u8],
     pub next: usize,
     pub end: usize,

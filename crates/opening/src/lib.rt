@@ -4,8 +4,8 @@
 mod ancestors;
 mod check;
 mod children;
+mod keys;
 mod placed;
-mod scan;
 mod slots;
 mod subject;
 mod verdict;

@@ -8,16 +8,17 @@ ghost use Rattle.layout.specs.Nodes.{node_at, end_of};
 ghost use Rattle.layout.specs.Rows.{slot_at};
 ghost use Rattle.layout.specs.Rules.{reach, Lies};
 ghost use Rattle.layout.specs.Tests.{rises_to, keyed_below};
-ghost use Rattle.opening.specs.Scans.{slot_number};
+ghost use Rattle.opening.specs.Slotted.{slot_count, slot_number};
 ghost use Rattle.opening.specs.Subjects.{table_of, kept};
 
-use crate::slots::{Keys, Marks, Slots};
+use crate::keys::Keys;
+use crate::slots::Slots;
 use crate::subject::Subject;
 use layout::{Kind, Node, Width};
 
 /// A node whose children fill its span, and whose slots, bitmap and data lie within the bytes.
 #[derive(Clone, Copy)]
-pub struct Placed<'a> {
+pub(crate) struct Placed<'a> {
     pub subject: Subject<'a>,
     ghost nesting: { kept Nesting subject ≡ true },
     ghost place: { kept Place subject ≡ true },
@@ -25,14 +26,14 @@ pub struct Placed<'a> {
 
 impl<'a> Placed<'a> {
     /// Where the tree of nodes that it heads ends.
-    pub fn end(&self) -> usize
+    pub(crate) fn end(&self) -> usize
         ensures { result ≡ end_of (table_of self.now.subject) self.now.subject.index }
     {
         self.subject.index + self.subject.node.span as usize
     }
 
     /// Whether the offsets, where its kind has any, are those of its data or child.
-    pub fn keeps_offsets(&self) -> bool
+    pub(crate) fn keeps_offsets(&self) -> bool
         ensures { result ≡ kept Offset self.now.subject }
     {
         // No `is_none_or`, as in `slots_lie`.
@@ -59,7 +60,7 @@ impl<'a> Placed<'a> {
     fn numbers(&self, width: Width, count: u64) -> Slots<'a>
         requires { Lies self.now.subject.bytes.now self.now.subject.node.slots
             ((self.now.subject.node.from + count) * wide width) }
-        ensures count { result.count ≡ count }
+        ensures count { slot_count result ≡ count }
         ensures at { (r : ℕ) → r < count → slot_number result r
             ≡ unle (slot_at self.now.subject.bytes.now (wide width) self.now.subject.node r) }
     {
@@ -70,7 +71,6 @@ impl<'a> Placed<'a> {
         Slots {
             bytes: &bytes[start as usize..end as usize],
             width,
-            count,
         }
     }
 
@@ -85,7 +85,7 @@ impl<'a> Placed<'a> {
         }
     }
 
-    // The node right below it.
+    // The node right below it. A type for the table would ask the same of it.
     fn child(&self) -> Node
         requires { self.now.subject.index + 1 < length self.now.subject.nodes.now / 80 }
         ensures { result ≡ node_at (table_of self.now.subject) (self.now.subject.index + 1) }
@@ -94,7 +94,7 @@ impl<'a> Placed<'a> {
     }
 
     /// Whether the keys of a Dictionary name rows of its child.
-    pub fn keeps_keys(&self) -> bool
+    pub(crate) fn keeps_keys(&self) -> bool
         ensures { result ≡ kept Key self.now.subject }
     {
         match self.subject.kind {
@@ -117,10 +117,7 @@ impl<'a> Placed<'a> {
         match node.bitmap_place() {
             None => slots.all_below(bound),
             Some(place) => {
-                let marks = Marks {
-                    bytes: &bytes[place as usize..],
-                    first: node.from,
-                };
+                let marks = node.bits(bytes, place);
                 let keys = Keys {
                     slots,
                     marks,

@@ -4,13 +4,13 @@ ghost use Rattle.std.specs.Coded.{Coded-set};
 ghost use Rattle.layout.specs.declared.fault.Refusal.TheVariants.{KindOrSize, Nesting, Place};
 ghost use Rattle.layout.specs.Nodes.{nodes_of, node_at, depth_of};
 ghost use Rattle.layout.specs.Rules.{Is};
-ghost use Rattle.layout.specs.Tests.{tabled_as, rows_agree, shaped_as, slots_lie, bitmap_lies, data_lies, holds};
+ghost use Rattle.layout.specs.Tests.{tabled_as, rows_agree, slots_lie, bitmap_lies, data_lies, holds};
 
 use crate::children::{Children, spans_within};
 use layout::{Kind, MOST_ROWS, NODE_BYTES, Node, Refusal, bytes_for, lies_within};
 
 /// How deep a node may stand; a top node has depth 1.
-pub const MOST_DEEP: usize = 64;
+pub(crate) const MOST_DEEP: usize = 64;
 
 // Whether size and rows are those that the table allows the kind.
 fn keeps_table(kind: Kind, node: Node) -> bool
@@ -20,15 +20,16 @@ fn keeps_table(kind: Kind, node: Node) -> bool
 }
 
 /// A rule that is kept, or what its breach is refused with.
-pub fn ensure(kept: bool, refusal: Refusal) -> Result<(), Refusal>
+pub(crate) fn ensure(kept: bool, refusal: Refusal) -> Result<(), Refusal>
     ensures { MatchResult result (λ _. kept ≡ true) (λ q. (q ≡ refusal) × (kept ≡ false)) }
 {
     if kept { Ok(()) } else { Err(refusal) }
 }
 
 /// The node that is checked, with the bytes beside it: its kind, size and rows are those that the table of kinds allows.
+// Nodes and bytes are two slices, since the host lends them so; a number names the node, whose children come after it there.
 #[derive(Clone, Copy)]
-pub struct Subject<'a> {
+pub(crate) struct Subject<'a> {
     pub nodes: &'a [u8],
     pub bytes: &'a [u8],
     pub index: usize,
@@ -44,10 +45,10 @@ pub struct Subject<'a> {
 }
 
 impl<'a> Subject<'a> {
-    ghost use Rattle.opening.specs.Subjects.{table_of, kept};
+    ghost use Rattle.opening.specs.Subjects.{table_of, kept, is_shaped};
 
     /// Node `index` of a table, given its depth.
-    pub fn new(
+    pub(crate) fn new(
         nodes: &'a [u8],
         bytes: &'a [u8],
         index: usize,
@@ -73,21 +74,22 @@ impl<'a> Subject<'a> {
         })
     }
 
-    /// Whether its children fill its span, and it does not stand too deep.
-    pub fn keeps_nesting(&self) -> bool
-        ensures { result ≡ kept Nesting self.now }
+    /// Refuses it where its children do not fill its span, or it stands too deep.
+    pub(crate) fn check_nesting(&self) -> Result<(), Refusal>
+        ensures { MatchResult result (λ _. kept Nesting self.now ≡ true)
+            (λ q. (q ≡ Nesting) × (kept Nesting self.now ≡ false)) }
     {
-        self.is_filled() && self.depth <= MOST_DEEP
+        self.check_children()?;
+        ensure(self.depth <= MOST_DEEP, Refusal::Nesting)
     }
 
-    // Whether the span lies in the table, and the children fill it, as many as the kind has.
-    fn is_filled(&self) -> bool
-        ensures { result ≡ shaped_as (Some self.now.kind) (table_of self.now) self.now.index }
+    // Refuses it where the span passes the table, or the children do not fill it, or are not as many as the kind has.
+    fn check_children(&self) -> Result<(), Refusal>
+        ensures { MatchResult result (λ _. is_shaped self.now ≡ true)
+            (λ q. (q ≡ Nesting) × (is_shaped self.now ≡ false)) }
     {
         let room = self.nodes.len() / NODE_BYTES - self.index;
-        if !spans_within(self.node, room as u64) {
-            return false;
-        }
+        ensure(spans_within(self.node, room as u64), Refusal::Nesting)?;
         let children = Children {
             nodes: self.nodes,
             next: self.index + 1,
@@ -96,15 +98,10 @@ impl<'a> Subject<'a> {
         // By hand: a child that does not fit ends the walk, and the count with it.
         let mut count = 0;
         for child in children {
-            let Ok(child) = child else {
-                return false;
-            };
-            if !self.rows_agree(child) {
-                return false;
-            }
+            ensure(self.rows_agree(child?), Refusal::Nesting)?;
             count += 1;
         }
-        self.kind.may_have(count)
+        ensure(self.kind.may_have(count), Refusal::Nesting)
     }
 
     // Whether a child has the rows that its parent asks for: a Struct has its own in each.
@@ -118,7 +115,7 @@ impl<'a> Subject<'a> {
     }
 
     /// Whether slots, bitmap and data lie within the bytes.
-    pub fn keeps_places(&self) -> bool
+    pub(crate) fn keeps_places(&self) -> bool
         ensures { result ≡ kept Place self.now }
     {
         self.slots_lie() && self.bitmap_lies() && self.data_lies()

@@ -7,12 +7,13 @@ use crate::check::check_node;
 use layout::{Fault, NODE_BYTES, Refusal};
 
 /// How many nodes a recording may have.
-pub const MOST_NODES: usize = 65_535;
+const MOST_NODES: usize = 65_535;
 
 /// How many bytes a recording may have.
-pub const MOST_BYTES: usize = 4_294_967_295;
+const MOST_BYTES: usize = 4_294_967_295;
 
 /// Whether every rule is kept; else the first that is broken, nodes in order and smaller numbers first.
+// Nodes and bytes are two slices wherever they go, since the host lends them so.
 pub fn judge(nodes: &[u8], bytes: &[u8]) -> Result<(), Fault>
     ensures { Verdict nodes.now bytes.now result }
 {

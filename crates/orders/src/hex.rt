@@ -42,7 +42,7 @@ fn read_pairs(heap: Global, text: &[u8]) -> Result<Vec<u8>, Why>
 
 /// The bytes that the rest of a line spells in hex; `-` alone spells none.
 #[tactic(auto, unfolding(crate::specs::Hexes::hex_read, crate::specs::Texts::at_end))]
-pub fn read_hex(heap: Global, text: &[u8]) -> Result<Vec<u8>, Why>
+pub(crate) fn read_hex(heap: Global, text: &[u8]) -> Result<Vec<u8>, Why>
     ensures { ReadsInto vec_items result (hex_read text.now) }
 {
     let (word, rest) = expect_word(text)?;

@@ -14,7 +14,7 @@ use std::str;
 /// The two runs of bytes that a case is made of.
 // A word of the order: a closure in its place would have to be made and handed out.
 #[derive(Clone, Copy, Debug, PartialEq, Eq, Hash)]
-pub enum Part {
+pub(crate) enum Part {
     Nodes,
     Bytes,
 }
@@ -23,7 +23,7 @@ pub enum Part {
 // Each is matched once, where it is done.
 // No `Debug`: it would print the bytes of a recording.
 #[derive(Drop)]
-pub enum Item {
+pub(crate) enum Item {
     Case(String),
     Node(Node),
     Hex(Part, Vec<u8>),
@@ -59,7 +59,7 @@ impl TryFrom<&[u8]> for Verb {
 
 /// The item of a line, if it has one.
 #[tactic(auto, unfolding(crate::specs::Items::item_read))]
-pub fn read_item(heap: Global, line: &[u8]) -> Result<Option<Item>, Why>
+pub(crate) fn read_item(heap: Global, line: &[u8]) -> Result<Option<Item>, Why>
     ensures { ReadsText said_by IsTextIn result (item_read line.now) }
 {
     let Some((word, rest)) = split_word(without_comment(line)) else {

@@ -12,7 +12,7 @@ fn is_numeral(word: &[u8]) -> bool
 }
 
 /// The number that a word spells: of a number that was printed, that number.
-pub fn read_number(word: &[u8]) -> Result<u64, Why>
+pub(crate) fn read_number(word: &[u8]) -> Result<u64, Why>
     ensures value { result ≡ number_read word.now }
     ensures back { (n : ℕ) → n < 2 ^ 64 → word.now ≡ decimal n → result ≡ Ok n }
 {

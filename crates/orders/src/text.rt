@@ -36,7 +36,7 @@ fn split_line(text: &[u8]) -> (&[u8], &[u8])
 /// The lines of a text, one after another.
 // Those of `split_inclusive` would keep their line feeds.
 #[derive(Drop)]
-pub struct Lines<'a>(pub &'a [u8]);
+pub(crate) struct Lines<'a>(pub &'a [u8]);
 
 impl<'a> Iterator for Lines<'a> {
     type Item = &'a [u8];
@@ -58,7 +58,7 @@ impl<'a> Iterator for Lines<'a> {
 
 /// A line up to its comment.
 #[tactic(auto, unfolding(crate::specs::Texts::uncommented))]
-pub fn without_comment(line: &[u8]) -> &[u8]
+pub(crate) fn without_comment(line: &[u8]) -> &[u8]
     ensures { result.now ≡ uncommented line.now }
 {
     split_before(line, |byte| *byte == b'#').0
@@ -66,7 +66,7 @@ pub fn without_comment(line: &[u8]) -> &[u8]
 
 /// A text from its first byte on that is no blank.
 #[tactic(auto, unfolding(crate::specs::Texts::unblanked))]
-pub fn skip_blanks(text: &[u8]) -> &[u8]
+pub(crate) fn skip_blanks(text: &[u8]) -> &[u8]
     ensures { result.now ≡ unblanked text.now }
 {
     split_before(text, |byte| !is_blank(*byte)).1
@@ -74,7 +74,7 @@ pub fn skip_blanks(text: &[u8]) -> &[u8]
 
 /// The first word of a text, if it has one, and what follows it.
 #[tactic(auto, unfolding(crate::specs::Texts::word_in, crate::specs::Texts::after_word))]
-pub fn split_word(text: &[u8]) -> Option<(&[u8], &[u8])>
+pub(crate) fn split_word(text: &[u8]) -> Option<(&[u8], &[u8])>
     ensures { MatchOption result (LacksWord text.now) (λ p. IsFirstWord text.now p.0.now p.1.now) }
 {
     let (word, rest) = split_before(skip_blanks(text), |byte| is_blank(*byte));
@@ -82,7 +82,7 @@ pub fn split_word(text: &[u8]) -> Option<(&[u8], &[u8])>
 }
 
 /// The first word of a text, which it has to have, and what follows it.
-pub fn expect_word(text: &[u8]) -> Result<(&[u8], &[u8]), Why>
+pub(crate) fn expect_word(text: &[u8]) -> Result<(&[u8], &[u8]), Why>
     ensures word { IfOk result (λ p. IsFirstWord text.now p.0.now p.1.now) }
     ensures missing { IfErr result (λ why. (why ≡ Why.MissingWord) × LacksWord text.now) }
 {
@@ -91,7 +91,7 @@ pub fn expect_word(text: &[u8]) -> Result<(&[u8], &[u8]), Why>
 
 /// Refuses a text that has a word.
 #[tactic(auto, unfolding(crate::specs::Texts::at_end))]
-pub fn expect_end(text: &[u8]) -> Result<(), Why>
+pub(crate) fn expect_end(text: &[u8]) -> Result<(), Why>
     ensures { result ≡ at_end text.now tt }
 {
     if skip_blanks(text).is_empty() {
@@ -103,7 +103,7 @@ pub fn expect_end(text: &[u8]) -> Result<(), Why>
 
 /// The only word of a text.
 #[tactic(auto, unfolding(crate::specs::Texts::only_word, crate::specs::Texts::at_end))]
-pub fn only_word(text: &[u8]) -> Result<&[u8], Why>
+pub(crate) fn only_word(text: &[u8]) -> Result<&[u8], Why>
     ensures { Reads (λ x. x.now) result (only_word text.now) }
 {
     let (word, rest) = expect_word(text)?;

@@ -46,13 +46,14 @@ fn run(rt: &(impl Env + Files + AllocGlobal + Print)) -> Result<(), Failure> {
 
 // The cases of the order that the command line names, or of the sample.
 fn ordered(rt: &(impl Env + Files + AllocGlobal)) -> Result<Vec<Case>, Failure> {
-    match order_path(rt)? {
-        None => read_order(rt, SAMPLE.as_bytes()).map_err(Failure::Order),
+    let cases = match order_path(rt)? {
+        None => read_order(rt, SAMPLE.as_bytes()),
         Some(path) => {
             let text = fs::read(rt, path.as_str()).map_err(Failure::Unread)?;
-            read_order(rt, &text).map_err(Failure::Order)
+            read_order(rt, &text)
         }
-    }
+    };
+    cases.map_err(Failure::Order)
 }
 
 // The one word that the command line may have.

@@ -22,6 +22,7 @@ struct NodeLine {
     nulls: u64,
 }
 
+// By hand: what it prints is in its contract.
 impl fmt::Display for NodeLine {
     ghost output = { λ line. Some (node_shown line) };
 

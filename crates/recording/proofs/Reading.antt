@@ -1,5 +1,5 @@
 -- What an opened recording tells of a node and of a row, whose numbers m were read from it.
-use Rattle.std.proofs.Common.{◌≡◌, ℕ, ◌+◌, ◌*◌, ◌/◌, ◌<◌, ◌≤◌, true, ◌⊎◌, List, length, is_some, Some, sym, refl, ap, ◌∙◌, subst, inl, inr, arith}
+use Rattle.std.proofs.Common.{◌≡◌, ℕ, ◌+◌, ◌*◌, ◌<◌, ◌≤◌, true, ◌⊎◌, List, length, is_some, Some, sym, refl, ap, ◌∙◌, subst, inl, inr, arith}
 use Rattle.std.proofs.lemmas.List.{take_all}
 use Rattle.layout.specs.declared.fault.Refusal.{Refusal}
 use Rattle.layout.specs.declared.fault.Refusal.TheVariants.{KindOrSize, Place, Offset, Key}
@@ -8,14 +8,14 @@ use Rattle.layout.specs.declared.kind.Kind.TheVariants.{Null, Boolean, Fixed, Di
 use Rattle.layout.specs.declared.node.Node.{Node}
 use Rattle.layout.specs.declared.number.Width.{Width}
 use Rattle.layout.specs.Bits.{bytes_for}
-use Rattle.layout.specs.Kinds.{offset_width, kind_of, has_bitmap}
+use Rattle.layout.specs.Kinds.{offset_width, kind_of}
 use Rattle.layout.specs.Nodes.{node_at, bitmap_of}
 use Rattle.layout.specs.Numbers.{wide, width_of, unle, unsigned_at}
 use Rattle.layout.specs.Rows.{mark_at, slot_at, offset_at, key_at}
-use Rattle.layout.specs.Rules.{Is, Tabled, Placed, HasOffsets, Rule, reach}
+use Rattle.layout.specs.Rules.{Is, Tabled, Placed, HasOffsets, Lies, Rule, reach}
 use Rattle.layout.proofs.Facts.{one_kind, key_width, key_width_is, bits_lie, fixed_lie, keys_lie, offsets_lie, bitmapped}
 use Rattle.layout.proofs.Opening.{kept_rule}
-use Rattle.layout.proofs.Places.{slot_within, bit_within}
+use Rattle.layout.proofs.Places.{slot_within}
 use Rattle.layout.proofs.Table.{kind_of_lem}
 use Rattle.layout.proofs.Tests.{natural-number}
 use Rattle.recording.specs.declared.node.NodeRef.{NodeRef}
@@ -67,12 +67,17 @@ module _ (n : NodeRef) (m : Node) (same : m ≡ numbers_of n) where
       let e = slot_within m.slots (m.from + r) y w w (length (run_of n)) refl l h in
       record { row = f; place = omega (arith, small); ends = e }
 
-  -- ---- nulls
+-- ---- bits
 
-  pub bitmap_there : (k : Kind) (place a c : ℕ) → Is (numbers_of n) k → true ≡ has_bitmap k → Some place ≡ bitmap_of m → a + c ≤ (numbers_of n).rows → place + bytes_for (m.from + a + c) ≤ length (run_of n)
-  bitmap_there k place a c is b e h =
-      let l = placed.bitmap k place (of k is) (sym b) (sym e) in
-      omega (arith, l, ap (λ (m : Node). m.rows) same)
+-- those of a Boolean's rows
+pub flags_lie : (n : NodeRef) → Is (numbers_of n) Boolean → Lies (run_of n) (numbers_of n).slots (bytes_for ((numbers_of n).from + (numbers_of n).rows))
+flags_lie n is = bits_lie (run_of n) (numbers_of n) (rules_at n Place) is
+
+-- the bitmap of any kind that may have one
+pub marks_lie : (n : NodeRef) (p : ℕ) → (Is (numbers_of n) Null → ⊥) → bitmap_of (numbers_of n) ≡ Some p → Lies (run_of n) p (bytes_for ((numbers_of n).from + (numbers_of n).rows))
+marks_lie n p ne e =
+    let t = rules_at n KindOrSize in
+    (rules_at n Place).bitmap t.kind p t.is (bitmapped (numbers_of n) t ne) e
 
 -- ---- offsets
 
@@ -114,17 +119,6 @@ module _ (r : Row) (m : Node) (same : m ≡ numbers_of r.node) where
 
   pub row_few : m.from + r.index ≤ 2147483647
   row_few = omega (arith, few r.node m same r.index 1 (omega (arith, r.within)))
-
-  pub bit_there : Is (numbers_of r.node) Boolean → m.slots + (m.from + r.index) / 8 < length (run_of r.node)
-  bit_there is =
-      bit_within m.slots (m.from + r.index) (m.from + m.rows) (length (run_of r.node)) (omega (arith, within)) (bits_lie (run_of r.node) m (placed r.node m same) (of r.node m same Boolean is))
-
-  -- in the bitmap of any kind that may have one
-  pub mark_there : (place : ℕ) → (Is (numbers_of r.node) Null → ⊥) → Some place ≡ bitmap_of m → place + (m.from + r.index) / 8 < length (run_of r.node)
-  mark_there place ne e =
-      let t = tabled r.node m same in
-      bit_within place (m.from + r.index) (m.from + m.rows) (length (run_of r.node)) (omega (arith, within))
-      ((placed r.node m same).bitmap t.kind place t.is (bitmapped m t (λ is. ne (subst (λ (m : Node). Is m Null) same is))) (sym e))
 
   -- ---- values and keys
 

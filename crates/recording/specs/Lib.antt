@@ -6,3 +6,4 @@ pub mod Rows
 pub mod Places
 pub mod Trees
 pub mod Windows
+pub mod RowBits

@@ -6,7 +6,7 @@ use crate::recording::Recording;
 use crate::row::Row;
 use crate::trees::Trees;
 use crate::window::Window;
-use layout::{Kind, Node};
+use layout::{BitSlice, Kind, Node};
 
 /// A node of an opened recording.
 // Its number in the table names it: the table is the host's, and a node's children come after it there.
@@ -19,6 +19,7 @@ pub struct NodeRef<'a> {
 
 impl<'a> NodeRef<'a> {
     ghost use Rattle.std.specs.Prelude.{◌↔◌, IsSome, IfSome};
+    ghost use Rattle.layout.specs.BitSlices.{AreBits};
     ghost use Rattle.layout.specs.Nodes.{end_of};
     ghost use Rattle.layout.specs.Rows.{nulls_at};
     ghost use Rattle.layout.specs.Rules.{Is, Filled, HasOffsets, Rule};
@@ -26,6 +27,7 @@ impl<'a> NodeRef<'a> {
     ghost use Rattle.layout.specs.declared.number.Width.{Width};
     ghost use Rattle.recording.specs.NodeRefs.{table_of, run_of, numbers_of};
     ghost use Rattle.recording.specs.NodeRefs.{nulls_between};
+    ghost use Rattle.recording.specs.RowBits.{AreMarks};
     ghost use Rattle.recording.specs.Rows.{IsRow};
     ghost use Rattle.recording.specs.Places.{children_of};
     ghost use Rattle.recording.specs.Trees.{places_left};
@@ -75,6 +77,7 @@ impl<'a> NodeRef<'a> {
     }
 
     /// Row r, which the node has; `get_row` tests that.
+    // Two, as with `at` and `get` of a recording.
     pub fn row(&self, r: u64) -> Row<'a>
         requires { r < (numbers_of self.now).rows }
         ensures { IsRow self.now r result }
@@ -129,14 +132,30 @@ impl<'a> NodeRef<'a> {
         ensures { (k : Kind) → Is (numbers_of self.now) k
             → result ≡ nulls_between k (run_of self.now) (numbers_of self.now) first rows }
     {
-        let node = self.node();
         if !self.kind().has_bitmap() {
             return rows;
         }
-        match node.bitmap_place() {
-            None => 0,
-            Some(place) => self.recording.zeros_at(place, node.from + first, rows),
-        }
+        self.marks()
+            .map_or(0, |marks| marks.part(first, rows).count_zeros())
+    }
+
+    // Which of its rows are valid, where it has a bitmap; a Null has none to ask for.
+    pub(crate) fn marks(&self) -> Option<BitSlice<'a>>
+        requires { Is (numbers_of self.now) Kind.Null → ⊥ }
+        ensures { AreMarks self.now result }
+    {
+        let node = self.node();
+        let place = node.bitmap_place()?;
+        Some(node.bits(self.recording.bytes, place))
+    }
+
+    // The bits of a Boolean's rows.
+    pub(crate) fn flags(&self) -> BitSlice<'a>
+        requires { Is (numbers_of self.now) Kind.Boolean }
+        ensures { AreBits (numbers_of self.now) (run_of self.now) (numbers_of self.now).slots result }
+    {
+        let node = self.node();
+        node.bits(self.recording.bytes, node.slots)
     }
 
     /// All its rows.

@@ -4,9 +4,7 @@ ghost use Rattle.layout.specs.Opening.{Kept};
 use crate::node::NodeRef;
 use crate::trees::Trees;
 use crate::window::Window;
-use layout::{
-    Fault, MOST_ROWS, NODE_BYTES, Refusal, Width, count_zeros, lies_within, read, read_bit,
-};
+use layout::{Fault, MOST_ROWS, NODE_BYTES, Refusal, Width, lies_within, read};
 use opening::judge;
 use std::fmt;
 
@@ -20,11 +18,9 @@ pub struct Recording<'a> {
 }
 
 impl<'a> Recording<'a> {
-    ghost use Rattle.std.specs.Prelude.{◌≡◌, ◌+◌, ◌/◌, ◌^◌, ◌<◌, ◌≤◌, ◌↔◌, [], length, drop};
+    ghost use Rattle.std.specs.Prelude.{◌≡◌, ◌+◌, ◌<◌, ◌≤◌, ◌↔◌, [], length};
     ghost use Rattle.std.specs.Prelude.{IsSome, IfSome, Ok, Err, MatchResult, OnOk, OnErr};
-    ghost use Rattle.layout.specs.Bits.{bit_at, bytes_for, zeros};
     ghost use Rattle.layout.specs.Columns.{ColumnsAnswer};
-    ghost use Rattle.layout.specs.Lists.{rows};
     ghost use Rattle.layout.specs.Numbers.{wide, unsigned_at};
     ghost use Rattle.layout.specs.Opening.{Answers};
     ghost use Rattle.layout.specs.Rules.{Filled};
@@ -82,6 +78,7 @@ impl<'a> Recording<'a> {
     }
 
     /// Node i, which the recording has; `get` tests that.
+    // Two, since this one cannot fail, and a caller that has a proof shall not handle `None`.
     pub fn at(&self, i: usize) -> NodeRef<'a>
         requires { i < length (nodes_in self.now) }
         ensures { IsNode self.now i result }
@@ -146,7 +143,8 @@ impl<'a> Recording<'a> {
         }
         let mut nodes = self.trees_from(first);
         for column in 0..columns {
-            // With `filter(..).ok_or(..)?` a proof file has no name for what the closure answers.
+            // With `filter(..).ok_or(..)?` a proof file has no name for what the closure answers; a `zip` would end with
+            // the nodes, and show no column that is missing.
             match nodes.next() {
                 Some(node) if node.node().rows == rows => {}
                 _ => return Err(Fault::new(Refusal::Column, column, 0)),
@@ -161,24 +159,6 @@ impl<'a> Recording<'a> {
         ensures { result ≡ unsigned_at (bytes_in self.now) place width }
     {
         read(&self.bytes[place..], width)
-    }
-
-    // Bit i of the bytes from a place on.
-    pub(crate) fn bit_at(&self, place: u64, i: u64) -> bool
-        requires { place + i / 8 < length (bytes_in self.now) }
-        ensures { result ≡ bit_at (drop place (bytes_in self.now)) i }
-    {
-        read_bit(&self.bytes[place as usize..], i)
-    }
-
-    // How many of n bits, from bit `first` of the bytes from a place on, are 0.
-    pub(crate) fn zeros_at(&self, place: u64, first: u64, n: u64) -> u64
-        requires few { first + n < 2 ^ 64 }
-        requires within { place + bytes_for (first + n) ≤ length (bytes_in self.now) }
-        ensures { result
-            ≡ zeros (rows n (λ i. bit_at (drop place (bytes_in self.now)) (first + i))) }
-    {
-        count_zeros(&self.bytes[place as usize..], first, n)
     }
 }
 

@@ -27,11 +27,10 @@ impl<'a> Row<'a> {
         requires { Is (numbers_of self.now.node) Kind.Null → ⊥ }
         ensures { result ≡ mark_of self.now }
     {
-        let node = self.node.node();
         // With `is_none_or`, what is known of a closure that borrows self does not tell its answer.
-        match node.bitmap_place() {
+        match self.node.marks() {
             None => true,
-            Some(place) => self.node.recording.bit_at(place, node.from + self.index),
+            Some(marks) => marks.is_set(self.index),
         }
     }
 
@@ -40,10 +39,7 @@ impl<'a> Row<'a> {
         requires { Is (numbers_of self.now.node) Kind.Boolean }
         ensures { result ≡ flag_of self.now }
     {
-        let node = self.node.node();
-        self.node
-            .recording
-            .bit_at(node.slots, node.from + self.index)
+        self.node.flags().is_set(self.index)
     }
 
     /// The bytes of a Fixed or a Dictionary.

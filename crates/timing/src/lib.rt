@@ -5,7 +5,7 @@ ghost use Rattle.std.specs.Prelude.{◌≡◌};
 ghost use Rattle.timing.specs.Told.{Told};
 ghost use Rattle.timing.specs.Zeros.{zeros_from};
 
-use layout::{bytes_for, count_zeros};
+use layout::{BitSlice, bytes_for};
 use recording::Recording;
 
 /// Opens node bytes and bytes; answers the number of the refusal, or 0.
@@ -26,9 +26,9 @@ pub extern "C" fn timing_open<'a>(nodes: &'a [u8], bytes: &'a [u8]) -> u32
 pub extern "C" fn timing_count_zeros(bytes: &[u8], first: u32, n: u32) -> u64
     ensures { result ≡ zeros_from bytes.now first n }
 {
-    let (first, n) = (u64::from(first), u64::from(n));
-    if bytes_for(first + n) <= bytes.len() as u64 {
-        count_zeros(bytes, first, n)
+    let (first, len) = (u64::from(first), u64::from(n));
+    if bytes_for(first + len) <= bytes.len() as u64 {
+        BitSlice { bytes, first, len }.count_zeros()
     } else {
         0
     }

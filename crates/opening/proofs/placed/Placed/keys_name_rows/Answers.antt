@@ -1,4 +1,4 @@
-use Rattle.std.proofs.Common.{ℕ, ◌+◌, not, ◌||◌, ltb, drop, ap, ◌∙◌, arith, length-drop}
+use Rattle.std.proofs.Common.{ℕ, ◌+◌, not, ◌||◌, ltb, drop, ap, ◌∙◌}
 use Rattle.layout.specs.declared.node.Node.{Node}
 use Rattle.layout.specs.declared.number.Width.{Width}
 use Rattle.layout.specs.Bits.{bit_at}
@@ -6,7 +6,6 @@ use Rattle.layout.specs.Lists.{every}
 use Rattle.layout.specs.Numbers.{wide, unle}
 use Rattle.layout.specs.Rows.{slot_at}
 use Rattle.layout.specs.Tests.{keyed_below}
-use Rattle.layout.proofs.Lists.{rest_is}
 use Rattle.layout.proofs.Scans.{keys_unmarked, keys_marked}
 use Rattle.opening.proofs.Sliced.{below_is, marked_is}
 use Rattle.opening.proofs.Subjects.{values_stand, width_is, keys_within, marks_within}
@@ -20,16 +19,8 @@ numbers-slots-requires c =
     let w = c.unwrap-width.result in
     keys_within c.args.self.now c.requires w (width_is c.args.self.now c.requires c.try_from.result w c.try_from.ensures c.unwrap-width.ensures)
 
-pub slice_bounds-marks-count : goal.slice_bounds-marks-count
-slice_bounds-marks-count c = omega (arith, marks_within c.args.self.now c.requires c.in-Some.place c.in-Some.ensures)
-
-pub slice_bounds-marks-start : goal.slice_bounds-marks-start
-slice_bounds-marks-start c = omega (arith, marks_within c.args.self.now c.requires c.in-Some.place c.in-Some.ensures)
-
-pub invariant_of-keys-clause-within : goal.invariant_of-keys-clause-within
-invariant_of-keys-clause-within c =
-    let s = c.args.self.now.subject in
-    rw (rest_is c.in-Some.place s.bytes.now, length-drop, c.numbers-slots.ensures.count) (omega (arith, marks_within c.args.self.now c.requires c.in-Some.place c.in-Some.ensures))
+pub bits-marks-requires-clause-within : goal.bits-marks-requires-clause-within
+bits-marks-requires-clause-within c = marks_within c.args.self.now c.requires c.in-Some.place c.in-Some.ensures
 
 pub returns-in-None : goal.returns-in-None
 returns-in-None c =
@@ -50,7 +41,7 @@ returns-in-Some c =
     let size = width_is c.args.self.now c.requires c.try_from.result w c.try_from.ensures c.unwrap-width.ensures in
     let n = c.numbers-slots.ensures in
     c.all_below-in-Some.ensures
-    ∙ marked_is c.numbers-slots.result s.bytes.now (wide w) s.node (rw n.count n.at) s.node.rows c.min-bound.result c.in-Some.place n.count
+    ∙ marked_is c.numbers-slots.result s.bytes.now (wide w) s.node (rw n.count n.at) c.bits-marks.result c.min-bound.result c.in-Some.place n.count c.bits-marks.ensures
     ∙ ap (λ (b : ℕ). every s.node.rows (λ r. not (bit_at (drop c.in-Some.place s.bytes.now) (s.node.from + r)) || ltb (unle (slot_at s.bytes.now (wide w) s.node r)) b)) c.min-bound.ensures
     ∙ keys_marked s.bytes.now s.node (wide w) c.half.result c.child-rows.result.rows c.half.ensures size (keys_within c.args.self.now c.requires w size) c.in-Some.place c.in-Some.ensures
     ∙ ap (λ (n : Node). keyed_below s.bytes.now s.node n.rows) c.child-rows.ensures

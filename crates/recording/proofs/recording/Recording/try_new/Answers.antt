@@ -1,4 +1,4 @@
-use Rattle.std.proofs.Common.{◌≡◌, Ok, Err, Result, MatchResult, sym, refl, subst, rules}
+use Rattle.std.proofs.Common.{◌≡◌, Ok, Err, Result, MatchResult, sym, subst, rules}
 use Rattle.layout.specs.declared.fault.Fault.{Fault}
 use Rattle.layout.specs.Opening.{Answers}
 use Rattle.layout.proofs.Opening.{sound_kept, answers}
@@ -16,6 +16,3 @@ returns-in_err-judge c =
     let e : c.from_residual.result ≡ Err c.in_err-judge.field-0.0 = search rules in
     subst (λ (r : Result Recording Fault). MatchResult r (λ r. Answers nb bs (Ok tt) × (r.nodes.now ≡ nb) × (bytes_in r ≡ bs)) (λ f. Answers nb bs (Err f))) (sym e)
     (answers nb bs (Err c.in_err-judge.field-0.0) c.in_err-judge.ensures)
-
-pub returns : goal.returns
-returns c = (answers c.args.nodes.now c.args.bytes.now (Ok tt) c.in_ok-judge.ensures, refl, refl)

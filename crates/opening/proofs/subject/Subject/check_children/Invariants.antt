@@ -1,5 +1,5 @@
 use Rattle.opening.proofs.Walking.{Along}
-use Rattle.opening.proofs.subject.Subject.is_filled.Given as goal
+use Rattle.opening.proofs.subject.Subject.check_children.Given as goal
 
 abbrev pub invariant-loop-child : goal.invariant-loop-child
 invariant-loop-child l = Along l.self l.child-iterator l.count
