@@ -1,1 +1,2 @@
 pub mod Openings
+pub mod WindowCases

@@ -2,6 +2,7 @@
 #![tactic(auto)]
 
 ghost use Rattle.cases.specs.Openings.{Openings};
+ghost use Rattle.cases.specs.WindowCases.{WindowCases};
 
 #[cfg(test)]
 mod options;
@@ -15,4 +16,9 @@ mod table;
 /// The openings of specs/Openings.antt end as they say there.
 pub fn opening_cases_stand()
     ensures { Openings }
+{}
+
+/// The windows of specs/WindowCases.antt have the values, and are sent, as they say there.
+pub fn window_cases_stand()
+    ensures { WindowCases }
 {}

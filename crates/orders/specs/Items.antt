@@ -9,13 +9,14 @@ use Rattle.orders.specs.declared.item.Item.{Item}
 use Rattle.orders.specs.declared.item.Item.TheVariants as item
 use Rattle.orders.specs.declared.item.Part.{Part}
 use Rattle.orders.specs.declared.item.Part.TheVariants.{Nodes, Bytes}
+use Rattle.orders.specs.declared.item.Show as request
 use Rattle.orders.specs.declared.item.Verb.{Verb}
-use Rattle.orders.specs.declared.item.Verb.TheVariants.{Case, Node, Hex, File}
+use Rattle.orders.specs.declared.item.Verb.TheVariants.{Case, Node, Hex, File, Show}
 use Rattle.orders.specs.Texts.{is_empty, uncommented, word_in, after_word, at_end, only_word}
 use Rattle.orders.specs.Numbers.{number_read}
 use Rattle.orders.specs.Hexes.{hex_read}
 
--- ---- nodes
+-- ---- numbers
 
 -- a value before others, where all were read
 abbrev pub cons_read : {X : Type 0} → Result X Why → Result (List X) Why → Result (List X) Why
@@ -50,6 +51,12 @@ map_ok f (Err why) = Err why
 abbrev pub node_read : List ℕ → Result layout.Node Why
 node_read text = map_ok node_from (numbers_in 10 text)
 
+abbrev pub show_from : List ℕ → request.Show
+show_from ns = record { first = slice_index ns 0; columns = slice_index ns 1; rows = slice_index ns 2 }
+
+abbrev pub show_read : List ℕ → Result request.Show Why
+show_read text = map_ok show_from (numbers_in 3 text)
+
 -- ---- lines
 
 -- the word that a line begins with
@@ -60,7 +67,8 @@ verb_of w =
     (cond (bytes_eq w (codes "nodes")) (Some (Hex Nodes))
     (cond (bytes_eq w (codes "bytes")) (Some (Hex Bytes))
     (cond (bytes_eq w (codes "nodesfile")) (Some (File Nodes))
-    (cond (bytes_eq w (codes "bytesfile")) (Some (File Bytes)) None)))))
+    (cond (bytes_eq w (codes "bytesfile")) (Some (File Bytes))
+    (cond (bytes_eq w (codes "show")) (Some Show) None))))))
 
 abbrev pub verb_read : List ℕ → Result Verb Why
 verb_read w = ok_or (verb_of w) UnknownItem
@@ -71,12 +79,14 @@ pub data Saying : Type 0 where
   a_node : layout.Node → Saying
   a_hex : Part → List ℕ → Saying
   a_file : Part → List ℕ → Saying
+  a_show : request.Show → Saying
 
 abbrev pub said : Item → Saying
 said (item.Case name) = a_case (string_bytes name)
 said (item.Node node) = a_node node
 said (item.Hex part bytes) = a_hex part (vec_items bytes)
 said (item.File part path) = a_file part (string_bytes path)
+said (item.Show show) = a_show show
 
 -- a name or a path is text
 abbrev pub IsText : Saying → Type 0
@@ -84,12 +94,14 @@ IsText (a_case name) = IsUtf8 name
 IsText (a_node node) = Unit {0}
 IsText (a_hex part bytes) = Unit {0}
 IsText (a_file part path) = IsUtf8 path
+IsText (a_show show) = Unit {0}
 
 unfoldable pub rest_read : Verb → List ℕ → Result Saying Why
 rest_read Case rest = map_ok a_case (only_word rest)
 rest_read Node rest = map_ok a_node (node_read rest)
 rest_read (Hex part) rest = map_ok (a_hex part) (hex_read rest)
 rest_read (File part) rest = map_ok (a_file part) (only_word rest)
+rest_read Show rest = map_ok a_show (show_read rest)
 
 abbrev pub item_by : Result Verb Why → List ℕ → Result (Option Saying) Why
 item_by (Err why) rest = Err why

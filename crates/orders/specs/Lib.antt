@@ -4,3 +4,4 @@ pub mod Hexes
 pub mod Items
 pub mod Orders
 pub mod Words
+pub mod Adding

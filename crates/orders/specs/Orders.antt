@@ -10,8 +10,9 @@ use Rattle.orders.specs.declared.error.Why.{Why}
 use Rattle.orders.specs.declared.error.Why.TheVariants.{File, Memory}
 use Rattle.orders.specs.declared.item.Part.{Part}
 use Rattle.orders.specs.declared.item.Part.TheVariants.{Nodes, Bytes}
+use Rattle.orders.specs.declared.item.Show.{Show}
 use Rattle.orders.specs.Texts.{lines_in}
-use Rattle.orders.specs.Items.{Saying, a_case, a_node, a_hex, a_file, item_read, IsTextIn, Refuses}
+use Rattle.orders.specs.Items.{Saying, a_case, a_node, a_hex, a_file, a_show, item_read, IsTextIn, Refuses}
 
 -- ---- cases
 
@@ -20,23 +21,27 @@ pub record Spelled : Type 0 where
   pub name : Option (List ℕ)
   pub nodes : List ℕ
   pub bytes : List ℕ
+  pub shows : List Show
 
 abbrev pub spelled : Case → Spelled
-spelled c = record { name = option_map string_bytes c.name; nodes = vec_items c.nodes; bytes = vec_items c.bytes }
+spelled c = record { name = option_map string_bytes c.name; nodes = vec_items c.nodes; bytes = vec_items c.bytes; shows = vec_items c.shows }
 
 abbrev pub cases_in : Vec Case Global → List Spelled
 cases_in cases = map spelled (vec_items cases)
 
 abbrev pub fresh : Option (List ℕ) → Spelled
-fresh name = record { name = name; nodes = []; bytes = [] }
+fresh name = record { name = name; nodes = []; bytes = []; shows = [] }
 
 -- one more case, empty so far
 abbrev pub started : Option (List ℕ) → List Spelled → List Spelled
 started name cs = cs ++ fresh name ∷ []
 
 abbrev pub appended : Part → List ℕ → Spelled → Spelled
-appended Nodes more c = record { name = c.name; nodes = c.nodes ++ more; bytes = c.bytes }
-appended Bytes more c = record { name = c.name; nodes = c.nodes; bytes = c.bytes ++ more }
+appended Nodes more c = record { name = c.name; nodes = c.nodes ++ more; bytes = c.bytes; shows = c.shows }
+appended Bytes more c = record { name = c.name; nodes = c.nodes; bytes = c.bytes ++ more; shows = c.shows }
+
+abbrev pub asked : Show → Spelled → Spelled
+asked show c = record { name = c.name; nodes = c.nodes; bytes = c.bytes; shows = c.shows ++ show ∷ [] }
 
 -- an unnamed case where there is none yet
 abbrev pub begun : List Spelled → List Spelled
@@ -52,6 +57,10 @@ to_last f (c ∷ d ∷ cs) = c ∷ to_last f (d ∷ cs)
 abbrev pub grown : Part → List ℕ → List Spelled → List Spelled
 grown part more cs = to_last (appended part more) (begun cs)
 
+-- rows of the last case are to be shown
+abbrev pub showing : Show → List Spelled → List Spelled
+showing show cs = to_last (asked show) (begun cs)
+
 -- ---- lines
 
 -- what a line makes of the cases before it; what a file holds is not said
@@ -61,6 +70,7 @@ Does (Some (a_case name)) cs ds = ds ≡ started (Some name) cs
 Does (Some (a_node node)) cs ds = (bytes : List ℕ) × (length bytes ≡ 80) × (node_in bytes 0 ≡ node) × (ds ≡ grown Nodes bytes cs)
 Does (Some (a_hex part bytes)) cs ds = ds ≡ grown part bytes cs
 Does (Some (a_file part path)) cs ds = (bytes : List ℕ) × (ds ≡ grown part bytes cs)
+Does (Some (a_show show)) cs ds = ds ≡ showing show cs
 
 abbrev pub Followed : List ℕ → List Spelled → List Spelled → Type 0
 Followed line cs ds = (s : Option Saying) × (item_read line ≡ Ok s) × Does s cs ds

@@ -1,7 +1,7 @@
 //! What a line of an order says.
 ghost use Rattle.std.specs.Prelude.{◌≡◌, string_bytes, IsUtf8};
 ghost use Rattle.orders.specs.Texts.{only_word};
-ghost use Rattle.orders.specs.Items.{numbers_in, node_read, verb_read, said, said_by, rest_read, item_read, IsText, IsTextIn, ReadsText};
+ghost use Rattle.orders.specs.Items.{numbers_in, node_read, show_read, verb_read, said, said_by, rest_read, item_read, IsText, IsTextIn, ReadsText};
 
 use crate::error::Why;
 use crate::hex::read_hex;
@@ -19,6 +19,14 @@ pub(crate) enum Part {
     Bytes,
 }
 
+/// Rows of columns to show: a first node, how many columns, and how many rows.
+#[derive(Clone, Copy, Debug, PartialEq, Eq, Hash)]
+pub struct Show {
+    pub first: u64,
+    pub columns: u64,
+    pub rows: u64,
+}
+
 /// What to do to the cases so far.
 // Each is matched once, where it is done.
 // No `Debug`: it would print the bytes of a recording.
@@ -28,6 +36,7 @@ pub(crate) enum Item {
     Node(Node),
     Hex(Part, Vec<u8>),
     File(Part, String),
+    Show(Show),
 }
 
 // The word that a line begins with, matched once; what a line means is defined by it.
@@ -37,6 +46,7 @@ enum Verb {
     Node,
     Hex(Part),
     File(Part),
+    Show,
 }
 
 impl TryFrom<&[u8]> for Verb {
@@ -52,6 +62,7 @@ impl TryFrom<&[u8]> for Verb {
             b"bytes" => Ok(Verb::Hex(Part::Bytes)),
             b"nodesfile" => Ok(Verb::File(Part::Nodes)),
             b"bytesfile" => Ok(Verb::File(Part::Bytes)),
+            b"show" => Ok(Verb::Show),
             _ => Err(Why::UnknownItem),
         }
     }
@@ -79,6 +90,7 @@ fn read_rest(heap: Global, verb: Verb, rest: &[u8]) -> Result<Item, Why>
         Verb::Node => Ok(Item::Node(read_node(rest)?)),
         Verb::Hex(part) => Ok(Item::Hex(part, read_hex(heap, rest)?)),
         Verb::File(part) => Ok(Item::File(part, read_word(heap, rest)?)),
+        Verb::Show => Ok(Item::Show(read_show(rest)?)),
     }
 }
 
@@ -95,6 +107,18 @@ fn read_node(text: &[u8]) -> Result<Node, Why>
     ensures { result ≡ node_read text.now }
 {
     Ok(Node::from(read_numbers(text)?))
+}
+
+// What three numbers ask to show, and nothing after them.
+fn read_show(text: &[u8]) -> Result<Show, Why>
+    ensures { result ≡ show_read text.now }
+{
+    let [first, columns, rows] = read_numbers::<3>(text)?;
+    Ok(Show {
+        first,
+        columns,
+        rows,
+    })
 }
 
 // So many numbers, a word each, and nothing after them.

@@ -1,15 +1,17 @@
 //! An order: text that spells the node tables and the bytes of some cases, an item a line.
 //!
-//! - `case NAME` starts a case.
+//! - `case NAME` starts a case. The lines below belong to the last case that was started.
 //! - `node` and ten numbers append a node to the table: kind mark size rows from bitmap slots data extent span.
 //! - `nodes HEX` and `nodesfile PATH` append bytes to the table, `bytes HEX` and `bytesfile PATH` to the bytes.
+//! - `show FIRST COLUMNS ROWS` asks to show the first rows of columns: a first node, how many columns, and how many rows.
 //!
 //! Blanks stand between words, and `#` starts a comment. Hex is in pairs of digits, and `-` is none.
 #![tactic(auto)]
 
 ghost use Rattle.std.specs.Prelude.{◌≡◌, [], ◌∷◌, ◌++◌, string_bytes};
 ghost use Rattle.std.specs.Option.{option_map};
-ghost use Rattle.orders.specs.Orders.{spelled, fresh, started, appended, cases_in, begun, grown, Makes, Turns, Follows, OrderRead};
+ghost use Rattle.orders.specs.Orders.{spelled, fresh, started, appended, cases_in, begun, Makes, Turns, Follows, OrderRead};
+ghost use Rattle.orders.specs.Adding.{added, to_last_of};
 
 mod error;
 mod hex;
@@ -18,13 +20,14 @@ mod number;
 mod text;
 
 pub use error::{OrderError, Why};
+pub use item::Show;
 use item::{Item, Part, read_item};
 use std::alloc::Global;
 use std::fs;
 use std::rt::Files;
 use text::Lines;
 
-/// A recording to open: its node table and its bytes. A case before the first `case` line has no name.
+/// A recording to open, its node table and its bytes, and what to show of it. A case before the first `case` line has no name.
 // The two runs stand apart, since an opening takes them so.
 // No `Debug`: it would print the bytes of a recording.
 #[derive(Drop)]
@@ -32,6 +35,7 @@ pub struct Case {
     pub name: Option<String>,
     pub nodes: Vec<u8>,
     pub bytes: Vec<u8>,
+    pub shows: Vec<Show>,
 }
 
 impl Case {
@@ -42,17 +46,38 @@ impl Case {
             name,
             nodes: Vec::new(heap),
             bytes: Vec::new(heap),
+            shows: Vec::new(heap),
         }
     }
 
-    fn append(&mut self, part: Part, more: &[u8]) -> Result<(), Why>
-        ensures { Makes result (spelled self.new ≡ appended part more.now (spelled self.old)) }
+    fn add(&mut self, more: More) -> Result<(), Why>
+        ensures { Makes result (spelled self.new ≡ added more.entry (spelled self.old)) }
     {
-        match part {
-            Part::Nodes => self.nodes.extend_from_slice(more)?,
-            Part::Bytes => self.bytes.extend_from_slice(more)?,
+        match more {
+            More::Nodes(bytes) => self.nodes.extend_from_slice(bytes)?,
+            More::Bytes(bytes) => self.bytes.extend_from_slice(bytes)?,
+            More::Show(show) => self.shows.push(show)?,
         }
         Ok(())
+    }
+}
+
+// What a line adds to a case.
+#[derive(Clone, Copy)]
+enum More<'a> {
+    Nodes(&'a [u8]),
+    Bytes(&'a [u8]),
+    Show(Show),
+}
+
+impl<'a> More<'a> {
+    fn of(part: Part, bytes: &'a [u8]) -> More<'a>
+        ensures { added result ≡ appended part bytes.now }
+    {
+        match part {
+            Part::Nodes => More::Nodes(bytes),
+            Part::Bytes => More::Bytes(bytes),
+        }
     }
 }
 
@@ -80,9 +105,12 @@ fn follow(rt: &(impl Files + AllocGlobal), line: &[u8], cases: &mut Vec<Case>) -
     };
     match item {
         Item::Case(name) => add_case(cases, Some(name)),
-        Item::Node(node) => append_to_last(cases, Part::Nodes, &node.to_bytes()),
-        Item::Hex(part, bytes) => append_to_last(cases, part, &bytes),
-        Item::File(part, path) => append_to_last(cases, part, &fs::read(rt, path.as_str())?),
+        Item::Node(node) => add_to_last(cases, More::Nodes(&node.to_bytes())),
+        Item::Hex(part, bytes) => add_to_last(cases, More::of(part, &bytes)),
+        Item::File(part, path) => {
+            add_to_last(cases, More::of(part, &fs::read(rt, path.as_str())?))
+        }
+        Item::Show(show) => add_to_last(cases, More::Show(show)),
     }
 }
 
@@ -104,10 +132,10 @@ fn begin(cases: &mut Vec<Case>) -> Result<(), Why>
     Ok(())
 }
 
-// Appends to the last case, or to an unnamed one where there is none yet.
-fn append_to_last(cases: &mut Vec<Case>, part: Part, more: &[u8]) -> Result<(), Why>
-    ensures { Turns (grown part more.now) cases.old result cases.new }
+// Adds to the last case, or to an unnamed one where there is none yet.
+fn add_to_last(cases: &mut Vec<Case>, more: More) -> Result<(), Why>
+    ensures { Turns (to_last_of more.entry) cases.old result cases.new }
 {
     begin(cases)?;
-    cases.last_mut().unwrap().append(part, more)
+    cases.last_mut().unwrap().add(more)
 }

@@ -3,6 +3,7 @@
 
 mod sample;
 mod show;
+mod value;
 
 use orders::{Case, OrderError, read_order};
 use sample::SAMPLE;

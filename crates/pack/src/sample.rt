@@ -19,6 +19,22 @@ bytes 00000000 00000000 03000000 03000000 08000000  # place 48: where the byte s
 bytes 6f6e65 7468726565                             # place 68: one, three
 bytes 00000000 00000000 03000000 07000000           # place 76: where the dictionary's begin and end
 bytes 726564 626c7565                               # place 92: red, blue
+show 0 1 3                                          # the rows of the struct
+show 3 2 3                                          # two columns side by side: the byte strings, and the dictionary
+show 2 2 5                                          # the second column has other rows
+
+case kinds
+node 1 0 0 3 2  0  0  0 0 1  # Booleans
+node 2 0 3 3 0  0  1  0 0 1  # values of three bytes
+node 4 0 0 3 0  0 10 42 6 1  # byte strings with offsets of eight bytes
+node 0 0 0 3 0  0  0  0 0 1  # nulls
+bytes 14                                            # place  0: the Booleans
+bytes 616263 000102 226122                          # place  1: the values; a quote is not printed in quotes
+bytes 0000000000000000 0300000000000000             # place 10: where the byte strings begin and end
+bytes 0300000000000000 0600000000000000
+bytes 616263 00ff7f                                 # place 42: the byte strings
+show 0 4 3
+show 0 1 2147483648                                 # too many rows
 
 case key
 node 8 1 1 3 0 0 0  0 0 2

@@ -8,9 +8,10 @@ ghost use Rattle.recording.specs.Trees.{places_left};
 ghost use Rattle.pack.specs.Levels.{IsDeep};
 ghost use Rattle.pack.specs.Shown.{node_shown};
 
+use crate::value::RowText;
 use layout::{Fault, Kind, Node};
-use orders::Case;
-use recording::{NodeRef, Recording, Trees};
+use orders::{Case, Show};
+use recording::{Columns, NodeRef, Recording, Trees};
 use std::{fmt, io};
 
 /// What is printed of a node.
@@ -46,12 +47,18 @@ impl fmt::Display for NodeLine {
     }
 }
 
-/// Opens a case, and prints its nodes or the rule that it breaks.
+/// Opens a case, and prints its nodes and the rows that it asks for, or the rule that it breaks.
 pub(crate) fn show_case(rt: &impl Print, case: &Case) -> io::Result<()> {
     show_name(rt, case)?;
     match Recording::try_new(&case.nodes, &case.bytes) {
-        Ok(recording) => show_recording(rt, &recording),
-        Err(fault) => show_fault(rt, fault),
+        Ok(recording) => {
+            show_recording(rt, &recording)?;
+            for show in case.shows.iter() {
+                show_columns(rt, &recording, *show)?;
+            }
+            Ok(())
+        }
+        Err(fault) => show_fault(rt, "open", fault),
     }
 }
 
@@ -60,8 +67,8 @@ fn show_name(rt: &impl Print, case: &Case) -> io::Result<()> {
     println!(rt; "case {name}")
 }
 
-fn show_fault(rt: &impl Print, fault: Fault) -> io::Result<()> {
-    println!(rt; "open {fault}")?;
+fn show_fault(rt: &impl Print, what: &str, fault: Fault) -> io::Result<()> {
+    println!(rt; "{what} {fault}")?;
     println!(rt; "{}", fault.refusal)
 }
 
@@ -98,4 +105,43 @@ fn line_of(node: &NodeRef, depth: u64) -> NodeLine
         node: node.node(),
         nulls: node.nulls(),
     }
+}
+
+// Prints the rows of columns that an order asks for, or why they are none.
+fn show_columns(rt: &impl Print, recording: &Recording, show: Show) -> io::Result<()> {
+    let Show {
+        first,
+        columns,
+        rows,
+    } = show;
+    match recording.columns(first as usize, columns, rows) {
+        Ok(found) => {
+            println!(rt; "show ok first {first} columns {columns} rows {rows}")?;
+            show_kinds(rt, &found)?;
+            show_rows(rt, &found)
+        }
+        Err(fault) => show_fault(rt, "show", fault),
+    }
+}
+
+// A line with the kind and the mark of each column.
+fn show_kinds(rt: &impl Print, columns: &Columns) -> io::Result<()> {
+    print!(rt; "columns")?;
+    for column in columns.nodes() {
+        let Node { kind, mark, .. } = column.node();
+        print!(rt; " | kind {kind} mark {mark}")?;
+    }
+    println!(rt; "")
+}
+
+// For each row a line with what the columns have in it.
+fn show_rows(rt: &impl Print, columns: &Columns) -> io::Result<()> {
+    for r in 0..columns.rows() {
+        print!(rt; "row {r}")?;
+        for row in columns.row(r) {
+            print!(rt; " | {}", RowText(row))?;
+        }
+        println!(rt; "")?;
+    }
+    Ok(())
 }

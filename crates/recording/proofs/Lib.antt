@@ -1,4 +1,6 @@
 pub mod Reading
-pub mod Columns
+pub mod Fitting
 pub mod Windows
 pub mod SideBySide
+pub mod Beside
+pub mod Held

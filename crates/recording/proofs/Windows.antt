@@ -1,10 +1,11 @@
 -- What an opened recording tells of windows.
-use Rattle.std.proofs.Common.{◌≡◌, ℕ, ◌+◌, ◌-◌, ◌<◌, ◌≤◌, true, false, cond, List, length, Some, None, Option, sym, refl, ap, ap₂, ◌∙◌, arith}
+use Rattle.std.proofs.Common.{◌≡◌, ℕ, ◌+◌, ◌-◌, ◌<◌, ◌≤◌, true, false, cond, List, length, Some, None, Option, sym, refl, ap, ap₂, ◌∙◌, subst, ◌⊎◌, inl, inr, arith}
 use Rattle.layout.specs.declared.fault.Refusal.TheVariants.{KindOrSize, Nesting, Place, Offset}
 use Rattle.layout.specs.declared.kind.Kind.{Kind}
 use Rattle.layout.specs.declared.kind.Kind.TheVariants.{Null, Boolean, Fixed, Bytes32, Bytes64, List32, List64, Struct, Dictionary}
 use Rattle.layout.specs.declared.node.Node.{Node}
 use Rattle.layout.specs.declared.number.Width.{Width}
+use Rattle.layout.specs.declared.number.Width.TheVariants.{Four, Eight}
 use Rattle.layout.specs.Lists.{cut}
 use Rattle.layout.specs.Kinds.{offset_width, has_data, has_bitmap}
 use Rattle.layout.specs.Nodes.{node_at, end_of, bitmap_of}
@@ -13,18 +14,24 @@ use Rattle.layout.specs.Rows.{offset_at, count_at, string_at, nulls_in}
 use Rattle.layout.specs.Rules.{Is, HasOffsets, reach, ChildrenFit}
 use Rattle.layout.specs.Trees.{Tree, Forest, trees_in, tree_at, tree_as}
 use Rattle.layout.specs.Messages.{null_count, own_field}
-use Rattle.layout.specs.Windows.{Inside, marks_in, marks_at, shown, shown_in}
-use Rattle.layout.proofs.Facts.{child_stands}
+use Rattle.layout.specs.Windows as layout
+use Rattle.layout.specs.Windows.{Inside, marks_in, marks_at, shown, shown_in, rows_at, passed_to}
+use Rattle.layout.proofs.Facts.{one_kind, child_stands}
+use Rattle.laws.proofs.Passing.{passing}
+use Rattle.laws.proofs.Says.{up_to}
 use Rattle.laws.proofs.Table.{tree_as_lem}
+use Rattle.recording.specs.declared.recording.Recording.{Recording}
 use Rattle.recording.specs.declared.node.NodeRef.{NodeRef}
 use Rattle.recording.specs.declared.window.Window.{Window}
-use Rattle.recording.specs.NodeRefs.{table_of, run_of, numbers_of, nulls_between}
-use Rattle.recording.specs.Windows.{window_in, HasStrings, HasElements}
+use Rattle.recording.specs.NodeRefs.{table_of, run_of, numbers_of, nulls_between, IsOffset}
+use Rattle.recording.specs.Passing.{IsChild, ArePassed, AreElements}
+use Rattle.recording.specs.View.{nodes_in}
+use Rattle.recording.specs.Windows.{window_at, window_in, HasStrings, HasElements}
 use Rattle.recording.proofs.Reading.{rules_at}
 
 -- ---- nulls
 
-tree_of : (n : NodeRef) (k : Kind) → Is (numbers_of n) k → tree_at (table_of n) n.index ≡ tree_as (Some k) (numbers_of n) (trees_in (table_of n) (n.index + 1) (end_of (table_of n) n.index))
+pub tree_of : (n : NodeRef) (k : Kind) → Is (numbers_of n) k → tree_at (table_of n) n.index ≡ tree_as (Some k) (numbers_of n) (trees_in (table_of n) (n.index + 1) (end_of (table_of n) n.index))
 tree_of n k is = tree_as_lem (numbers_of n) (trees_in (table_of n) (n.index + 1) (end_of (table_of n) n.index)) k is
 
 -- those that a bitmap marks, or every row of a Null
@@ -118,3 +125,51 @@ module _ (n : NodeRef) where
 
   pub list_child : (w : Width) → HasElements m w → n.index + 1 < length (table_of n)
   list_child w has = child_stands (table_of n) n.index (rules_at n Nesting) has.0 has.1 (listed has.0 w has.2 has.3).1
+
+  -- from the first offset of some rows to the last none falls
+  pub offsets_between : (w : Width) (a c x y : ℕ) → HasOffsets m w → a + c ≤ m.rows → IsOffset n a x → IsOffset n (a + c) y → x ≤ y
+  offsets_between w a c x y has l first last =
+      let here : a + 0 ≡ a = omega arith in
+      let up = up_to (run_of n) (wide w) m (reach has.0 (table_of n) n.index) (rules_at n Offset has.0 w has.1 has.2) a c l 0 (omega arith) in
+      let from : offset_at (run_of n) (wide w) m (a + 0) ≡ offset_at (run_of n) (wide w) m a = ap (offset_at (run_of n) (wide w) m) here in
+      omega (arith, first.value w has, last.value w has)
+
+-- ---- what a window passes
+
+-- a node has one kind
+passed_by : (v : Window) (c x y : ℕ) (j : Kind) → Is (numbers_of v.node) j → (x ≡ (passed_to j (window_in v) c).first) × (y ≡ (passed_to j (window_in v) c).rows) → ArePassed v c x y
+passed_by v c x y j is t k at =
+    subst (λ (k : Kind). (x ≡ (passed_to k (window_in v) c).first) × (y ≡ (passed_to k (window_in v) c).rows)) (one_kind (numbers_of v.node) j k is at) t
+
+pub elements_passed : (v : Window) (c x y : ℕ) (j : Kind) → Is (numbers_of v.node) j → (j ≡ List32) ⊎ (j ≡ List64) → AreElements v x y → ArePassed v c x y
+elements_passed v c x y j is (inl e) t = let at = subst (Is (numbers_of v.node)) e is in passed_by v c x y List32 at (t Four (List32, at, refl, refl))
+elements_passed v c x y j is (inr e) t = let at = subst (Is (numbers_of v.node)) e is in passed_by v c x y List64 at (t Eight (List64, at, refl, refl))
+
+-- it is of the child, in the same recording
+passed_at : (k : Kind) (w : layout.Window) (c : ℕ) → passed_to k w c ≡ rows_at w c (passed_to k w c).first (passed_to k w c).rows
+passed_at Null w c = refl
+passed_at Boolean w c = refl
+passed_at Fixed w c = refl
+passed_at Bytes32 w c = refl
+passed_at Bytes64 w c = refl
+passed_at List32 w c = refl
+passed_at List64 w c = refl
+passed_at Struct w c = refl
+passed_at Dictionary w c = refl
+
+-- it lies inside the child's rows
+pub passed_inside : (v : Window) (child : NodeRef) (x y : ℕ) → IsChild v.node child → ArePassed v child.index x y → x + y ≤ (numbers_of child).rows
+passed_inside v child x y (rec, of) t =
+    let r = rules_at v.node KindOrSize in
+    let p = t r.kind r.is in
+    let w = window_in v in
+    let inside = subst Inside (passed_at r.kind w child.index) (passing.inside w r.kind child.index (inside_of v) r.is of) in
+    let same : (node_at (table_of v.node) child.index).rows ≡ (numbers_of child).rows = ap (λ (rec : Recording). (node_at (nodes_in rec) child.index).rows) (sym rec) in
+    omega (arith, inside.within, p.0, p.1, same)
+
+pub is_passed : (v : Window) (child : NodeRef) (x y : ℕ) → IsChild v.node child → ArePassed v child.index x y
+    → (k : Kind) → Is (numbers_of v.node) k → window_at child.recording child.index x y ≡ passed_to k (window_in v) child.index
+is_passed v child x y (rec, of) t k is =
+    let p = t k is in
+    let w = window_in v in
+    ap (λ (r : Recording). window_at r child.index x y) rec ∙ ap₂ (rows_at w child.index) p.0 p.1 ∙ sym (passed_at k w child.index)

@@ -7,3 +7,7 @@ pub mod Places
 pub mod Trees
 pub mod Windows
 pub mod RowBits
+pub mod RowPlaces
+pub mod Values
+pub mod ColumnPlaces
+pub mod Passing

@@ -5,7 +5,7 @@ use Rattle.layout.specs.Tests.{kids}
 use Rattle.recording.specs.declared.recording.Recording.{Recording}
 use Rattle.recording.specs.declared.node.NodeRef.{NodeRef}
 use Rattle.recording.specs.NodeRefs.{table_of}
-use Rattle.recording.specs.View.{nodes_in}
+use Rattle.recording.specs.View.{nodes_in, node_of}
 
 -- a node of a recording, by its number
 abbrev pub Place : Type 0
@@ -24,3 +24,7 @@ trees_of rec first = places_between rec first (length (nodes_in rec))
 
 abbrev pub children_of : NodeRef → List Place
 children_of n = places_between n.recording (n.index + 1) (end_of (table_of n) n.index)
+
+-- how many rows a node has
+abbrev pub rows_at : Place → ℕ
+rows_at p = (node_of p.0 p.1).rows

@@ -1,12 +1,12 @@
 -- A row of a node.
-use Rattle.std.specs.Prelude.{◌≡◌, ℕ, Bool, List}
+use Rattle.std.specs.Prelude.{◌≡◌, ℕ, ◌+◌, Bool, List}
 use Rattle.layout.specs.declared.number.Width.{Width}
 use Rattle.layout.specs.Numbers.{wide}
 use Rattle.layout.specs.Rows.{mark_at, flag_at, slot_at, string_at}
 use Rattle.recording.specs.declared.node.NodeRef.{NodeRef}
 use Rattle.recording.specs.declared.row.Row.{Row}
 use Rattle.recording.specs.declared.window.Window.{Window}
-use Rattle.recording.specs.NodeRefs.{run_of, numbers_of}
+use Rattle.recording.specs.NodeRefs.{run_of, numbers_of, IsNode}
 use Rattle.recording.specs.Windows.{window_in, elements_at, HasStrings, HasElements}
 
 -- it is row r of node n
@@ -30,7 +30,8 @@ abbrev pub IsString : Row → List ℕ → Type 0
 IsString row bs =
     (w : Width) → HasStrings (numbers_of row.node) w → bs ≡ string_at (run_of row.node) (wide w) (numbers_of row.node) row.index
 
--- the elements of a List
+-- the elements of a List, in its child
 abbrev pub IsElements : Row → Window → Type 0
 IsElements row v =
-    (w : Width) → HasElements (numbers_of row.node) w → window_in v ≡ elements_at row.node.recording row.node.index row.index w
+    IsNode row.node.recording (row.node.index + 1) v.node
+    × ((w : Width) → HasElements (numbers_of row.node) w → window_in v ≡ elements_at row.node.recording row.node.index row.index w)

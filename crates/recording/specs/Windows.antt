@@ -1,23 +1,16 @@
 -- Windows of a recording, and what a row has.
-use Rattle.std.specs.Prelude.{◌≡◌, ℕ, ◌+◌, ◌<◌, true, false, Some, None, Option}
-use Rattle.layout.specs.declared.kind.Kind.TheVariants.{Struct}
+use Rattle.std.specs.Prelude.{◌≡◌, ℕ, ◌+◌, true, false, Some, None, Option}
 use Rattle.layout.specs.declared.kind.Kind.{Kind}
 use Rattle.layout.specs.declared.node.Node.{Node}
 use Rattle.layout.specs.declared.number.Width.{Width}
 use Rattle.layout.specs.Kinds.{offset_width, has_data}
 use Rattle.layout.specs.Numbers.{wide}
 use Rattle.layout.specs.Rows.{offset_at, count_at}
-use Rattle.layout.specs.Nodes.{end_of}
 use Rattle.layout.specs.Rules.{Is}
-use Rattle.layout.specs.Trees.{trees_in}
-use Rattle.layout.specs.Shown.{Value, null, held}
 use Rattle.layout.specs.Windows as layout
-use Rattle.layout.specs.Windows.{Inside, values_at, value_in, values_in}
+use Rattle.layout.specs.Windows.{Inside}
 use Rattle.recording.specs.declared.recording.Recording.{Recording}
 use Rattle.recording.specs.declared.window.Window.{Window}
-use Rattle.recording.specs.declared.window.RowValue.{RowValue}
-use Rattle.recording.specs.declared.window.RowValue.TheVariants as row
-use Rattle.recording.specs.NodeRefs.{IsNode}
 use Rattle.recording.specs.View.{nodes_in, bytes_in, node_of}
 
 abbrev pub window_at : Recording → ℕ → ℕ → ℕ → layout.Window
@@ -41,23 +34,3 @@ elements_at rec i r w = window_at rec (i + 1) (offset_at (bytes_in rec) (wide w)
 abbrev pub Made : Recording → ℕ → ℕ → ℕ → Option Window → Type 0
 Made rec i a n None = Inside (window_at rec i a n) → ⊥
 Made rec i a n (Some w) = (window_in w ≡ window_at rec i a n) × Inside (window_at rec i a n)
-
--- the value that what a row of node i has stands for
-abbrev pub meaning : Recording → ℕ → RowValue → Value
-meaning rec i row.Null = null
-meaning rec i (row.Bit b) = Value.bit b
-meaning rec i (row.Fixed s) = Value.bytes s.now
-meaning rec i (row.Bytes s) = Value.bytes s.now
-meaning rec i (row.List v) = Value.list (held (values_in (window_in v)))
-meaning rec i (row.Struct r) = Value.struct (held (values_at (bytes_in rec) (trees_in (nodes_in rec) (i + 1) (end_of (nodes_in rec) i)) r))
-meaning rec i (row.Entry v) = value_in (window_in v) 0
-
--- the windows that it names lie inside the rows of the child, node i + 1 of the recording, and the row that it names is one of the Struct's
-abbrev pub Reaches : Recording → ℕ → RowValue → Type 0
-Reaches rec i row.Null = Unit {0}
-Reaches rec i (row.Bit b) = Unit {0}
-Reaches rec i (row.Fixed s) = Unit {0}
-Reaches rec i (row.Bytes s) = Unit {0}
-Reaches rec i (row.List v) = Inside (window_in v) × IsNode rec (i + 1) v.node
-Reaches rec i (row.Struct r) = Is (node_of rec i) Struct × (r < (node_of rec i).rows)
-Reaches rec i (row.Entry v) = Inside (window_in v) × IsNode rec (i + 1) v.node × (v.rows ≡ 1)

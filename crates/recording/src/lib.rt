@@ -6,19 +6,25 @@
 #![tactic(auto)]
 
 mod alignment;
+mod columns;
 mod node;
 mod offsets;
 mod options;
 mod recording;
 mod row;
+mod rows;
 mod trees;
+mod value;
 mod window;
 
 pub use alignment::Alignment;
+pub use columns::Columns;
 pub use node::NodeRef;
 pub use offsets::Offsets;
 pub use options::{DictionaryHandling, IpcWriteOptions};
 pub use recording::Recording;
 pub use row::Row;
+pub use rows::{Parts, Rows};
 pub use trees::Trees;
-pub use window::{RowValue, Window};
+pub use value::RowValue;
+pub use window::Window;

@@ -26,7 +26,7 @@ impl<'a> NodeRef<'a> {
     ghost use Rattle.layout.specs.declared.fault.Refusal.{Refusal};
     ghost use Rattle.layout.specs.declared.number.Width.{Width};
     ghost use Rattle.recording.specs.NodeRefs.{table_of, run_of, numbers_of};
-    ghost use Rattle.recording.specs.NodeRefs.{nulls_between};
+    ghost use Rattle.recording.specs.NodeRefs.{nulls_between, IsNode};
     ghost use Rattle.recording.specs.RowBits.{AreMarks};
     ghost use Rattle.recording.specs.Rows.{IsRow};
     ghost use Rattle.recording.specs.Places.{children_of};
@@ -74,6 +74,14 @@ impl<'a> NodeRef<'a> {
             next: self.index + 1,
             end: self.end(),
         }
+    }
+
+    // The one child of a List or a Dictionary.
+    pub(crate) fn child(&self) -> NodeRef<'a>
+        requires { self.now.index + 1 < length (table_of self.now) }
+        ensures { IsNode self.now.recording (self.now.index + 1) result }
+    {
+        self.recording.at(self.index + 1)
     }
 
     /// Row r, which the node has; `get_row` tests that.

@@ -1,6 +1,7 @@
 ghost use Rattle.layout.specs.Nodes.{nodes_of};
 ghost use Rattle.layout.specs.Opening.{Kept};
 
+use crate::columns::Columns;
 use crate::node::NodeRef;
 use crate::trees::Trees;
 use crate::window::Window;
@@ -26,6 +27,7 @@ impl<'a> Recording<'a> {
     ghost use Rattle.layout.specs.Rules.{Filled};
     ghost use Rattle.recording.specs.View.{nodes_in, bytes_in};
     ghost use Rattle.recording.specs.NodeRefs.{IsNode};
+    ghost use Rattle.recording.specs.ColumnPlaces.{ColumnsFound};
     ghost use Rattle.recording.specs.Places.{trees_of};
     ghost use Rattle.recording.specs.Trees.{places_left};
     ghost use Rattle.recording.specs.Windows.{Made};
@@ -138,19 +140,34 @@ impl<'a> Recording<'a> {
     pub fn check_columns(&self, first: usize, columns: u64, rows: u64) -> Result<(), Fault>
         ensures { ColumnsAnswer (nodes_in self.now) first columns rows result }
     {
+        self.columns(first, columns, rows)?;
+        Ok(())
+    }
+
+    /// So many columns of a batch, from node `first` on, or what `check_columns` answers.
+    pub fn columns(&self, first: usize, count: u64, rows: u64) -> Result<Columns<'a>, Fault>
+        ensures { ColumnsFound self.now first count rows result }
+    {
         if rows > MOST_ROWS {
             return Err(Fault::from(Refusal::Rows));
         }
         let mut nodes = self.trees_from(first);
-        for column in 0..columns {
+        // Where there is no column, `first` may be past the last node.
+        let mut end = first.min(self.node_count());
+        for column in 0..count {
             // With `filter(..).ok_or(..)?` a proof file has no name for what the closure answers; a `zip` would end with
             // the nodes, and show no column that is missing.
             match nodes.next() {
-                Some(node) if node.node().rows == rows => {}
+                Some(node) if node.node().rows == rows => end = node.end(),
                 _ => return Err(Fault::new(Refusal::Column, column, 0)),
             }
         }
-        Ok(())
+        Ok(Columns {
+            recording: *self,
+            first,
+            end,
+            rows,
+        })
     }
 
     // The number at a place of the bytes.

@@ -2,6 +2,8 @@ ghost use Rattle.std.specs.Prelude.{◌<◌};
 ghost use Rattle.recording.specs.NodeRefs.{numbers_of};
 
 use crate::node::{NodeRef, slot_place};
+use crate::rows::Parts;
+use crate::value::RowValue;
 use crate::window::Window;
 use layout::{Kind, Width, read};
 
@@ -14,13 +16,14 @@ pub struct Row<'a> {
 }
 
 impl<'a> Row<'a> {
-    ghost use Rattle.std.specs.Prelude.{◌≡◌, ◌+◌, ◌≤◌, true, ◌⊎◌, length};
+    ghost use Rattle.std.specs.Prelude.{◌≡◌, ◌+◌, ◌≤◌, true, ◌⊎◌, length, All};
     ghost use Rattle.layout.specs.Numbers.{unle};
     ghost use Rattle.layout.specs.Rules.{Is, HasOffsets};
     ghost use Rattle.recording.specs.View.{node_of};
     ghost use Rattle.recording.specs.NodeRefs.{IsOffset};
     ghost use Rattle.recording.specs.Rows.{mark_of, flag_of, slot_of, IsString, IsElements};
     ghost use Rattle.recording.specs.Windows.{HasStrings, HasElements};
+    ghost use Rattle.recording.specs.Values.{value_of, meaning, rows_named, StandsBelow, IsEntry, AreParts};
 
     /// Whether it is valid; a Null has no valid row to ask for.
     pub fn is_valid(&self) -> bool
@@ -83,10 +86,48 @@ impl<'a> Row<'a> {
         ensures { IsElements self.now result }
     {
         let (first, end) = self.node.offsets().bounds(self.index);
+        let child = self.node.child();
         Window {
-            node: self.node.recording.at(self.node.index + 1),
+            node: child,
             first,
             rows: end - first,
+        }
+    }
+
+    /// The row that the key of a valid row names: one of a Dictionary's child.
+    pub fn entry(&self) -> Row<'a>
+        requires is { Is (numbers_of self.now.node) Kind.Dictionary }
+        requires valid { mark_of self.now ≡ true }
+        ensures { IsEntry self.now result }
+    {
+        self.node.child().row(self.key())
+    }
+
+    /// The parts of a Struct: the same row of each child.
+    pub fn parts(&self) -> Parts<'a>
+        requires { Is (numbers_of self.now.node) Kind.Struct }
+        ensures { AreParts self.now result }
+    {
+        Parts {
+            nodes: self.node.children(),
+            index: self.index,
+        }
+    }
+
+    /// What it has.
+    pub fn value(&self) -> RowValue<'a>
+        ensures value { meaning result ≡ value_of self.now }
+        ensures below { All (StandsBelow self.now) (rows_named result) }
+    {
+        match self.node.kind() {
+            Kind::Null => RowValue::Null,
+            _ if !self.is_valid() => RowValue::Null,
+            Kind::Boolean => RowValue::Bit(self.bit()),
+            Kind::Fixed => RowValue::Fixed(self.slot()),
+            Kind::Bytes32 | Kind::Bytes64 => RowValue::Bytes(self.string()),
+            Kind::List32 | Kind::List64 => RowValue::List(self.elements()),
+            Kind::Struct => RowValue::Struct(self.parts()),
+            Kind::Dictionary => RowValue::Entry(self.entry()),
         }
     }
 }

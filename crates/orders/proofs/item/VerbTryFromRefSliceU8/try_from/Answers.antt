@@ -13,3 +13,6 @@ returns-in-nodesfile c = read_as c.args.word.now (codes "nodesfile") (omega arit
 
 pub returns-in-bytesfile : goal.returns-in-bytesfile
 returns-in-bytesfile c = read_as c.args.word.now (codes "bytesfile") (omega arith) (search rules)
+
+pub returns-in-show : goal.returns-in-show
+returns-in-show c = read_as c.args.word.now (codes "show") (omega arith) (search rules)

@@ -1,5 +1,5 @@
 use Rattle.recording.proofs.Windows.{list_child}
 use Rattle.recording.proofs.row.Row.elements.Goals as goal
 
-pub at-requires : goal.at-requires
-at-requires c = list_child c.args.self.now.node c.requires.0 c.requires.1
+pub child-child-requires : goal.child-child-requires
+child-child-requires c = list_child c.args.self.now.node c.requires.0 c.requires.1
