@@ -10,17 +10,23 @@ pub window_cases : WindowCases
 unfolding node_in nodes_of forest_by value_at shown fields buffers
 window_cases = record {
   numbers_values = refl;
+  numbers_fields = refl;
   numbers_records = refl;
   numbers_body = refl;
   texts_values = refl;
+  texts_fields = refl;
   texts_records = refl;
   texts_body = refl;
+  bits_fields = refl;
+  bits_records = refl;
   bits_shifted = refl;
   bits_whole = refl;
   marked_values = refl;
   marked_fields = refl;
   marked_records = refl;
+  marked_body = refl;
   listed_values = refl;
   listed_fields = refl;
+  listed_records = refl;
   listed_body = refl;
 }

@@ -51,14 +51,18 @@ listed =
 
 pub record WindowCases : Type 0 where
   pub numbers_values : values_in numbers ≡ Value.bytes (20 ∷ 0 ∷ 0 ∷ 0 ∷ []) ∷ Value.bytes (30 ∷ 0 ∷ 0 ∷ 0 ∷ []) ∷ []
+  pub numbers_fields : fields_sent numbers ≡ field 2 0 ∷ []
   pub numbers_records : records_sent numbers ≡ buffer 0 0 ∷ buffer 0 8 ∷ []
   -- not those that begin at the buffer's first slot
   pub numbers_body : body_sent numbers ≡ 20 ∷ 0 ∷ 0 ∷ 0 ∷ 30 ∷ 0 ∷ 0 ∷ 0 ∷ []
   pub texts_values : values_in texts ≡ Value.bytes [] ∷ Value.bytes (102 ∷ 103 ∷ 104 ∷ 105 ∷ []) ∷ []
+  pub texts_fields : fields_sent texts ≡ field 2 0 ∷ []
   -- each buffer begins after the padding of those before it
   pub texts_records : records_sent texts ≡ buffer 0 0 ∷ buffer 0 12 ∷ buffer 16 4 ∷ []
   pub texts_body : body_sent texts
       ≡ 0 ∷ 0 ∷ 0 ∷ 0 ∷ 0 ∷ 0 ∷ 0 ∷ 0 ∷ 4 ∷ 0 ∷ 0 ∷ 0 ∷ 0 ∷ 0 ∷ 0 ∷ 0 ∷ 102 ∷ 103 ∷ 104 ∷ 105 ∷ 0 ∷ 0 ∷ 0 ∷ 0 ∷ []
+  pub bits_fields : fields_sent (bits 3 6) ≡ field 6 0 ∷ []
+  pub bits_records : records_sent (bits 3 6) ≡ buffer 0 0 ∷ buffer 0 1 ∷ []
   -- shifted down, with spare bits 0
   pub bits_shifted : body_sent (bits 3 6) ≡ 0x36 ∷ 0 ∷ 0 ∷ 0 ∷ 0 ∷ 0 ∷ 0 ∷ 0 ∷ []
   -- from a byte's first bit, as they stand, spare bits and all
@@ -66,7 +70,9 @@ pub record WindowCases : Type 0 where
   pub marked_values : values_in marked ≡ Value.bytes (1 ∷ 0 ∷ []) ∷ null ∷ Value.bytes (3 ∷ 0 ∷ []) ∷ []
   pub marked_fields : fields_sent marked ≡ field 3 1 ∷ []
   pub marked_records : records_sent marked ≡ buffer 0 1 ∷ buffer 8 6 ∷ []
+  pub marked_body : body_sent marked ≡ 0x05 ∷ 0 ∷ 0 ∷ 0 ∷ 0 ∷ 0 ∷ 0 ∷ 0 ∷ 1 ∷ 0 ∷ 2 ∷ 0 ∷ 3 ∷ 0 ∷ 0 ∷ 0 ∷ []
   pub listed_values : values_in listed ≡ Value.list (Values.more (Value.bytes (0x20 ∷ [])) (Values.more (Value.bytes (0x30 ∷ [])) Values.none)) ∷ []
   -- of the child just the elements, and not the whole of it
   pub listed_fields : fields_sent listed ≡ field 1 0 ∷ field 2 0 ∷ []
+  pub listed_records : records_sent listed ≡ buffer 0 0 ∷ buffer 0 8 ∷ buffer 8 0 ∷ buffer 8 2 ∷ []
   pub listed_body : body_sent listed ≡ 0 ∷ 0 ∷ 0 ∷ 0 ∷ 2 ∷ 0 ∷ 0 ∷ 0 ∷ 0x20 ∷ 0x30 ∷ 0 ∷ 0 ∷ 0 ∷ 0 ∷ 0 ∷ 0 ∷ []

@@ -2,12 +2,10 @@
 use Rattle.std.specs.Prelude.{List}
 use Rattle.orders.specs.declared.More.{More}
 use Rattle.orders.specs.declared.More.TheVariants as more
-use Rattle.orders.specs.declared.item.Part.TheVariants.{Nodes, Bytes}
 use Rattle.orders.specs.Orders.{Spelled, appended, asked, begun, to_last}
 
 abbrev pub added : More → Spelled → Spelled
-added (more.Nodes bytes) = appended Nodes bytes.now
-added (more.Bytes bytes) = appended Bytes bytes.now
+added (more.Run part bytes) = appended part bytes.now
 added (more.Show show) = asked show
 
 -- to the last case, or to an unnamed one where there is none yet

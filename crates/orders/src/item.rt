@@ -19,7 +19,7 @@ pub(crate) enum Part {
     Bytes,
 }
 
-/// Rows of columns to show: a first node, how many columns, and how many rows.
+/// Rows of columns to show: a first node, how many columns, and how many rows they have.
 #[derive(Clone, Copy, Debug, PartialEq, Eq, Hash)]
 pub struct Show {
     pub first: u64,

@@ -3,14 +3,14 @@
 //! - `case NAME` starts a case. The lines below belong to the last case that was started.
 //! - `node` and ten numbers append a node to the table: kind mark size rows from bitmap slots data extent span.
 //! - `nodes HEX` and `nodesfile PATH` append bytes to the table, `bytes HEX` and `bytesfile PATH` to the bytes.
-//! - `show FIRST COLUMNS ROWS` asks to show the first rows of columns: a first node, how many columns, and how many rows.
+//! - `show FIRST COLUMNS ROWS` asks to show the rows of columns: a first node, how many columns, and how many rows they have.
 //!
 //! Blanks stand between words, and `#` starts a comment. Hex is in pairs of digits, and `-` is none.
 #![tactic(auto)]
 
 ghost use Rattle.std.specs.Prelude.{◌≡◌, [], ◌∷◌, ◌++◌, string_bytes};
 ghost use Rattle.std.specs.Option.{option_map};
-ghost use Rattle.orders.specs.Orders.{spelled, fresh, started, appended, cases_in, begun, Makes, Turns, Follows, OrderRead};
+ghost use Rattle.orders.specs.Orders.{spelled, fresh, started, cases_in, begun, Makes, Turns, Follows, OrderRead};
 ghost use Rattle.orders.specs.Adding.{added, to_last_of};
 
 mod error;
@@ -54,8 +54,8 @@ impl Case {
         ensures { Makes result (spelled self.new ≡ added more.entry (spelled self.old)) }
     {
         match more {
-            More::Nodes(bytes) => self.nodes.extend_from_slice(bytes)?,
-            More::Bytes(bytes) => self.bytes.extend_from_slice(bytes)?,
+            More::Run(Part::Nodes, bytes) => self.nodes.extend_from_slice(bytes)?,
+            More::Run(Part::Bytes, bytes) => self.bytes.extend_from_slice(bytes)?,
             More::Show(show) => self.shows.push(show)?,
         }
         Ok(())
@@ -65,20 +65,8 @@ impl Case {
 // What a line adds to a case.
 #[derive(Clone, Copy)]
 enum More<'a> {
-    Nodes(&'a [u8]),
-    Bytes(&'a [u8]),
+    Run(Part, &'a [u8]),
     Show(Show),
-}
-
-impl<'a> More<'a> {
-    fn of(part: Part, bytes: &'a [u8]) -> More<'a>
-        ensures { added result ≡ appended part bytes.now }
-    {
-        match part {
-            Part::Nodes => More::Nodes(bytes),
-            Part::Bytes => More::Bytes(bytes),
-        }
-    }
 }
 
 /// The cases of an order, at least one.
@@ -105,10 +93,10 @@ fn follow(rt: &(impl Files + AllocGlobal), line: &[u8], cases: &mut Vec<Case>) -
     };
     match item {
         Item::Case(name) => add_case(cases, Some(name)),
-        Item::Node(node) => add_to_last(cases, More::Nodes(&node.to_bytes())),
-        Item::Hex(part, bytes) => add_to_last(cases, More::of(part, &bytes)),
+        Item::Node(node) => add_to_last(cases, More::Run(Part::Nodes, &node.to_bytes())),
+        Item::Hex(part, bytes) => add_to_last(cases, More::Run(part, &bytes)),
         Item::File(part, path) => {
-            add_to_last(cases, More::of(part, &fs::read(rt, path.as_str())?))
+            add_to_last(cases, More::Run(part, &fs::read(rt, path.as_str())?))
         }
         Item::Show(show) => add_to_last(cases, More::Show(show)),
     }

@@ -1,4 +1,4 @@
-//! Opens the recordings that an order spells, and prints their trees or the rules that they break.
+//! Opens the recordings that an order spells, and prints their trees and the rows that it asks for, or the rules that they break.
 #![tactic(auto)]
 
 mod sample;

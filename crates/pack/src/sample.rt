@@ -1,6 +1,7 @@
 //! The order that is followed where the command line names none.
 
-/// A struct of lists, byte strings and a dictionary, with nulls; and a dictionary that a valid row reaches past.
+/// A struct of lists, byte strings and a dictionary, with nulls; columns of other kinds; and a dictionary that a valid row
+/// reaches past.
 pub const SAMPLE: &str = "\
 # node: kind mark size rows from bitmap slots data extent span
 # A bitmap is given as its place plus 1, and 0 is none.

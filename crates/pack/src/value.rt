@@ -1,6 +1,4 @@
 //! What is printed of a row.
-ghost use Rattle.std.specs.Prelude.{Some};
-
 use layout::{Width, read};
 use recording::{Row, RowValue};
 use std::{fmt, str};
@@ -22,6 +20,7 @@ fn write_row<W: fmt::Write>(row: Row, f: &mut fmt::Formatter<W>) -> fmt::Result 
         RowValue::Bit(bit) => write!(f, "{bit}"),
         RowValue::Fixed(bytes) => write!(f, "{}", FixedText(bytes)),
         RowValue::Bytes(bytes) => write!(f, "{}", BytesText(bytes)),
+        // The rows of a window and the parts of a Struct come from two iterators, so there are two loops.
         RowValue::List(window) => {
             f.write_str("[")?;
             let mut more = false;

@@ -14,7 +14,7 @@ use Rattle.recording.specs.NodeRefs.{table_of, numbers_of}
 use Rattle.recording.specs.Places.{Place, place_of, places_between, trees_of, rows_at}
 use Rattle.recording.specs.View.{nodes_in, bytes_in}
 use Rattle.recording.proofs.SideBySide.{places_none, none_left, first_left}
-use Rattle.recording.proofs.Beside.{sides_are}
+use Rattle.recording.proofs.Below.{sides_are, side_more}
 
 module _ (rec : Recording) (first rows k : ℕ) where
   abbrev p : ℕ
@@ -59,11 +59,6 @@ module _ (rec : Recording) (first rows k : ℕ) where
       )
 
 -- ---- the nodes of the columns so far
-
--- one more node at the end
-side_more : (ns : List Node) (cs : List ℕ) (p e : ℕ) → SideBySide ns p cs e → 1 ≤ (node_at ns e).span → SideBySide ns p (cs ++ e ∷ []) (end_of ns e)
-side_more ns [] p e s some = subst (λ (q : ℕ). (e ≡ q) × (1 ≤ (node_at ns q).span) × (end_of ns q ≡ end_of ns e)) (sym s) (refl, some, refl)
-side_more ns (c ∷ cs) p e s some = (s.0, s.1, side_more ns cs (end_of ns p) e s.2 some)
 
 rows_more : (ns : List Node) (cs : List ℕ) (e rows : ℕ) → AllRows ns cs rows → (node_at ns e).rows ≡ rows → AllRows ns (cs ++ e ∷ []) rows
 rows_more ns [] e rows a same = (same, tt)

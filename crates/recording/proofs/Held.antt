@@ -13,6 +13,7 @@ use Rattle.layout.specs.Rules.{Is, ChildrenFit, SideBySide}
 use Rattle.layout.specs.Shown.{Value, null, held}
 use Rattle.layout.specs.Trees.{Tree, Forest, child_of, tree_as, trees_in, tree_at}
 use Rattle.layout.specs.Windows.{value_at, values_at, values_in}
+use Rattle.layout.proofs.Facts.{one_kind}
 use Rattle.layout.proofs.Kids.{side_le}
 use Rattle.laws.proofs.Kept.{child_is}
 use Rattle.laws.proofs.Table.{at_none, at_more}
@@ -20,15 +21,16 @@ use Rattle.recording.specs.declared.recording.Recording.{Recording}
 use Rattle.recording.specs.declared.node.NodeRef.{NodeRef}
 use Rattle.recording.specs.declared.row.Row.{Row}
 use Rattle.recording.specs.declared.rows.Parts.{Parts}
+use Rattle.recording.specs.declared.value.RowValue.{RowValue}
 use Rattle.recording.specs.declared.window.Window.{Window}
 use Rattle.recording.specs.NodeRefs.{table_of, run_of, numbers_of}
 use Rattle.recording.specs.Places.{Place}
 use Rattle.recording.specs.RowPlaces.{parts_left}
 use Rattle.recording.specs.Rows.{mark_of, flag_of, slot_of, IsString, IsElements}
-use Rattle.recording.specs.Values.{value_of, value_of_place, IsEntry, AreParts}
+use Rattle.recording.specs.Values.{value_of, value_of_place, Tells, IsEntry, AreParts}
 use Rattle.recording.specs.View.{nodes_in, bytes_in}
 use Rattle.recording.specs.Windows.{window_in, window_at}
-use Rattle.recording.proofs.Beside.{sides_are}
+use Rattle.recording.proofs.Below.{sides_are}
 use Rattle.recording.proofs.Reading.{rules_at}
 use Rattle.recording.proofs.Windows.{tree_of}
 
@@ -132,3 +134,7 @@ module _ (r : Row) where
         ap₂ (λ (q : Place) (k : ℕ). value_of_place (q, k)) (ap₂ (λ (rec : Recording) (i : ℕ). (rec, i)) rec i) key
         ∙ ap (λ (t : Tree). value_at bs t (unle (slot_of r))) (sym (one Dictionary is (λ c h. h)))
         ∙ (rw (← valid) refl ∙ sym (value_as Dictionary is))
+
+-- a node has one kind
+pub told : (r : Row) (j : Kind) (a : RowValue) → Is (numbers_of r.node) j → Tells r j a → (k : Kind) → Is (numbers_of r.node) k → Tells r k a
+told r j a is t k at = subst (λ (k : Kind). Tells r k a) (one_kind (numbers_of r.node) j k is at) t

@@ -2,5 +2,5 @@ pub mod Reading
 pub mod Fitting
 pub mod Windows
 pub mod SideBySide
-pub mod Beside
+pub mod Below
 pub mod Held

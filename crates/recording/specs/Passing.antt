@@ -2,17 +2,18 @@
 use Rattle.std.specs.Prelude.{◌≡◌, ℕ}
 use Rattle.layout.specs.declared.kind.Kind.{Kind}
 use Rattle.layout.specs.Rules.{Is}
-use Rattle.layout.specs.Windows.{ChildOf, passed_first, passed_count, passed_to}
+use Rattle.layout.specs.Windows.{passed_first, passed_count, passed_to}
 use Rattle.layout.specs.declared.number.Width.{Width}
 use Rattle.layout.specs.Numbers.{wide}
 use Rattle.recording.specs.declared.node.NodeRef.{NodeRef}
 use Rattle.recording.specs.declared.window.Window.{Window}
-use Rattle.recording.specs.NodeRefs.{table_of, run_of, numbers_of}
+use Rattle.recording.specs.NodeRefs.{run_of, numbers_of}
+use Rattle.recording.specs.Places.{place_of, IsChildPlace}
 use Rattle.recording.specs.Windows.{window_in, HasElements}
 
 -- c is a child of n
 abbrev pub IsChild : NodeRef → NodeRef → Type 0
-IsChild n c = (c.recording ≡ n.recording) × ChildOf (table_of n) n.index c.index
+IsChild n c = IsChildPlace n (place_of c)
 
 -- so many rows from one on are what it passes to the child at node c
 abbrev pub ArePassed : Window → ℕ → ℕ → ℕ → Type 0

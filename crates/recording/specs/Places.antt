@@ -1,7 +1,8 @@
 -- Nodes of a recording that stand side by side.
-use Rattle.std.specs.Prelude.{ℕ, ◌+◌, ◌-◌, List, map, length}
+use Rattle.std.specs.Prelude.{◌≡◌, ℕ, ◌+◌, ◌-◌, List, map, length}
 use Rattle.layout.specs.Nodes.{end_of}
 use Rattle.layout.specs.Tests.{kids}
+use Rattle.layout.specs.Windows.{ChildOf}
 use Rattle.recording.specs.declared.recording.Recording.{Recording}
 use Rattle.recording.specs.declared.node.NodeRef.{NodeRef}
 use Rattle.recording.specs.NodeRefs.{table_of}
@@ -28,3 +29,7 @@ children_of n = places_between n.recording (n.index + 1) (end_of (table_of n) n.
 -- how many rows a node has
 abbrev pub rows_at : Place → ℕ
 rows_at p = (node_of p.0 p.1).rows
+
+-- the place of a child of n
+abbrev pub IsChildPlace : NodeRef → Place → Type 0
+IsChildPlace n p = (p.0 ≡ n.recording) × ChildOf (table_of n) n.index p.1

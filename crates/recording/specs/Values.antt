@@ -1,5 +1,7 @@
 -- The value of a row, and what a reader is told of it.
-use Rattle.std.specs.Prelude.{◌≡◌, ◌+◌, ◌<◌, List, [], ◌∷◌, map}
+use Rattle.std.specs.Prelude.{◌≡◌, ◌+◌, ◌<◌, ◌⊎◌, true, false, List, [], ◌∷◌, map}
+use Rattle.layout.specs.declared.kind.Kind.{Kind}
+use Rattle.layout.specs.declared.kind.Kind.TheVariants.{Null, Boolean, Fixed, Bytes32, Bytes64, List32, List64, Struct, Dictionary}
 use Rattle.layout.specs.Numbers.{unle}
 use Rattle.layout.specs.Shown.{Value, null, held}
 use Rattle.layout.specs.Trees.{tree_at}
@@ -10,7 +12,7 @@ use Rattle.recording.specs.declared.value.RowValue.TheVariants as row
 use Rattle.recording.specs.declared.rows.Parts.{Parts}
 use Rattle.recording.specs.NodeRefs.{IsNode}
 use Rattle.recording.specs.Places.{children_of}
-use Rattle.recording.specs.Rows.{slot_of}
+use Rattle.recording.specs.Rows.{mark_of, slot_of, IsElements}
 use Rattle.recording.specs.Trees.{places_left}
 use Rattle.recording.specs.RowPlaces.{RowPlace, row_place, rows_of_window, parts_left}
 use Rattle.recording.specs.View.{nodes_in, bytes_in}
@@ -40,6 +42,16 @@ IsEntry r e = IsNode r.node.recording (r.node.index + 1) e.node × (e.index ≡ 
 -- the same row of each child
 abbrev pub AreParts : Row → Parts → Type 0
 AreParts r p = (places_left p.nodes ≡ children_of r.node) × (p.index ≡ r.index)
+
+-- the answer is that of the kind, and is Null just where the row is null
+abbrev pub Tells : Row → Kind → RowValue → Type 0
+Tells r k row.Null = (k ≡ Null) ⊎ (mark_of r ≡ false)
+Tells r k (row.Bit b) = (k ≡ Boolean) × (mark_of r ≡ true)
+Tells r k (row.Fixed s) = (k ≡ Fixed) × (mark_of r ≡ true)
+Tells r k (row.Bytes s) = ((k ≡ Bytes32) ⊎ (k ≡ Bytes64)) × (mark_of r ≡ true)
+Tells r k (row.List v) = ((k ≡ List32) ⊎ (k ≡ List64)) × (mark_of r ≡ true) × IsElements r v
+Tells r k (row.Struct p) = (k ≡ Struct) × (mark_of r ≡ true) × AreParts r p
+Tells r k (row.Entry e) = (k ≡ Dictionary) × (mark_of r ≡ true) × IsEntry r e
 
 -- the rows that an answer names
 abbrev pub rows_named : RowValue → List RowPlace

@@ -1,4 +1,4 @@
--- Windows of a recording, and what a row has.
+-- Windows of a recording.
 use Rattle.std.specs.Prelude.{◌≡◌, ℕ, ◌+◌, true, false, Some, None, Option}
 use Rattle.layout.specs.declared.kind.Kind.{Kind}
 use Rattle.layout.specs.declared.node.Node.{Node}

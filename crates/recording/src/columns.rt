@@ -19,7 +19,7 @@ pub struct Columns<'a> {
 }
 
 impl<'a> Columns<'a> {
-    ghost use Rattle.std.specs.Prelude.{◌<◌, map};
+    ghost use Rattle.std.specs.Prelude.{◌<◌};
     ghost use Rattle.recording.specs.Trees.{places_left};
     ghost use Rattle.recording.specs.RowPlaces.{parts_left, row_of_places};
     ghost use Rattle.recording.specs.ColumnPlaces.{column_places};

@@ -18,7 +18,7 @@ pub struct NodeRef<'a> {
 }
 
 impl<'a> NodeRef<'a> {
-    ghost use Rattle.std.specs.Prelude.{◌↔◌, IsSome, IfSome};
+    ghost use Rattle.std.specs.Prelude.{◌↔◌, IsSome, IfSome, All};
     ghost use Rattle.layout.specs.BitSlices.{AreBits};
     ghost use Rattle.layout.specs.Nodes.{end_of};
     ghost use Rattle.layout.specs.Rows.{nulls_at};
@@ -29,7 +29,7 @@ impl<'a> NodeRef<'a> {
     ghost use Rattle.recording.specs.NodeRefs.{nulls_between, IsNode};
     ghost use Rattle.recording.specs.RowBits.{AreMarks};
     ghost use Rattle.recording.specs.Rows.{IsRow};
-    ghost use Rattle.recording.specs.Places.{children_of};
+    ghost use Rattle.recording.specs.Places.{children_of, IsChildPlace};
     ghost use Rattle.recording.specs.Trees.{places_left};
     ghost use Rattle.recording.specs.Windows.{window_at, window_in};
 
@@ -67,7 +67,8 @@ impl<'a> NodeRef<'a> {
 
     /// Its children.
     pub fn children(&self) -> Trees<'a>
-        ensures { places_left result ≡ children_of self.now }
+        ensures nodes { places_left result ≡ children_of self.now }
+        ensures each { All (IsChildPlace self.now) (places_left result) }
     {
         Trees {
             recording: self.recording,

@@ -145,8 +145,8 @@ impl<'a> Recording<'a> {
     }
 
     /// So many columns of a batch, from node `first` on, or what `check_columns` answers.
-    pub fn columns(&self, first: usize, count: u64, rows: u64) -> Result<Columns<'a>, Fault>
-        ensures { ColumnsFound self.now first count rows result }
+    pub fn columns(&self, first: usize, columns: u64, rows: u64) -> Result<Columns<'a>, Fault>
+        ensures { ColumnsFound self.now first columns rows result }
     {
         if rows > MOST_ROWS {
             return Err(Fault::from(Refusal::Rows));
@@ -154,7 +154,7 @@ impl<'a> Recording<'a> {
         let mut nodes = self.trees_from(first);
         // Where there is no column, `first` may be past the last node.
         let mut end = first.min(self.node_count());
-        for column in 0..count {
+        for column in 0..columns {
             // With `filter(..).ok_or(..)?` a proof file has no name for what the closure answers; a `zip` would end with
             // the nodes, and show no column that is missing.
             match nodes.next() {

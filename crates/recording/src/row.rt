@@ -23,7 +23,7 @@ impl<'a> Row<'a> {
     ghost use Rattle.recording.specs.NodeRefs.{IsOffset};
     ghost use Rattle.recording.specs.Rows.{mark_of, flag_of, slot_of, IsString, IsElements};
     ghost use Rattle.recording.specs.Windows.{HasStrings, HasElements};
-    ghost use Rattle.recording.specs.Values.{value_of, meaning, rows_named, StandsBelow, IsEntry, AreParts};
+    ghost use Rattle.recording.specs.Values.{value_of, meaning, Tells, rows_named, StandsBelow, IsEntry, AreParts};
 
     /// Whether it is valid; a Null has no valid row to ask for.
     pub fn is_valid(&self) -> bool
@@ -116,6 +116,7 @@ impl<'a> Row<'a> {
 
     /// What it has.
     pub fn value(&self) -> RowValue<'a>
+        ensures kind { (k : Kind) → Is (numbers_of self.now.node) k → Tells self.now k result }
         ensures value { meaning result ≡ value_of self.now }
         ensures below { All (StandsBelow self.now) (rows_named result) }
     {

@@ -33,7 +33,7 @@ impl<'a> Iterator for Rows<'a> {
     }
 }
 
-/// The same row of nodes side by side, which are the parts of a Struct's row.
+/// The same row of nodes side by side: the parts of a Struct's row, or a row of columns.
 #[derive(Debug, Drop)]
 pub struct Parts<'a> {
     pub(crate) nodes: Trees<'a>,

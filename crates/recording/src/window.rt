@@ -5,9 +5,8 @@ use crate::node::NodeRef;
 use crate::rows::Rows;
 use layout::Kind;
 
-// What a stream keeps between calls is plain numbers (a node and rows), which is another type.
-/// So many rows of a node, from a row on, inside the rows that the node has. Only a recording, a node
-/// and a row make one.
+/// So many rows of a node, from a row on, inside the rows that the node has. Only a recording, a node,
+/// a row and a window make one.
 #[derive(Clone, Copy, Debug, PartialEq, Eq)]
 pub struct Window<'a> {
     pub(crate) node: NodeRef<'a>,
@@ -76,7 +75,7 @@ impl<'a> Window<'a> {
         ensures { ArePassed self.now child.now.index result.0 result.1 }
     {
         match self.node.kind() {
-            Kind::List32 | Kind::List64 => self.elements(),
+            Kind::List32 | Kind::List64 => self.passed_elements(),
             Kind::Struct => (self.first, self.rows),
             Kind::Dictionary => (0, child.node().rows),
             // The others have no child.
@@ -85,7 +84,7 @@ impl<'a> Window<'a> {
     }
 
     // The elements of a List's rows: the first of them, and how many they are.
-    fn elements(&self) -> (u64, u64)
+    fn passed_elements(&self) -> (u64, u64)
         requires { (w : Width) × HasElements (numbers_of self.now.node) w }
         ensures { AreElements self.now result.0 result.1 }
     {

@@ -1,7 +1,8 @@
-use Rattle.std.proofs.Common.{sym, ap, ◌∙◌, inr, arith, rules}
+use Rattle.std.proofs.Common.{refl, sym, ap, ◌∙◌, inr, arith, rules}
 use Rattle.layout.specs.declared.node.Node.{Node}
 use Rattle.recording.specs.Trees.{places_left}
 use Rattle.recording.proofs.Fitting.{column_missing, column_differs, column_next, column_ends, column_within, so_far_none, so_far_more, alike_between}
+use Rattle.recording.proofs.SideBySide.{places_none}
 use Rattle.recording.proofs.recording.Recording.columns.Goals as goal
 use Rattle.recording.proofs.recording.Recording.columns.Goals.{in_default-via-in-Some+else-node-rows, in_default-via-in_default}
 
@@ -44,3 +45,8 @@ returns-in_default c =
       ];
       before = c.loop-column.invariant.1;
     })
+
+pub returns : goal.returns
+returns c =
+    let i = c.loop-column.invariant in
+    (search rules, refl, refl, refl, search rules, λ z. places_none c.args.self.now c.args.first c.loop-column.end (i.5 (omega arith)))

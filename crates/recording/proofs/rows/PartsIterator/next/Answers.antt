@@ -1,7 +1,7 @@
 use Rattle.std.proofs.Common.{◌<◌}
 use Rattle.recording.specs.Places.{rows_at}
 use Rattle.recording.specs.Trees.{places_left}
-use Rattle.recording.proofs.Beside.{first_has, rest_has}
+use Rattle.recording.proofs.Below.{first_has, rest_has}
 use Rattle.recording.proofs.rows.PartsIterator.next.Goals as goal
 
 pub invariant_of-self : goal.invariant_of-self

@@ -1,17 +1,18 @@
 -- Rows of nodes side by side.
-use Rattle.std.proofs.Common.{◌≡◌, ℕ, ◌+◌, ◌-◌, ◌<◌, List, [], ◌∷◌, map, Option, Some, None, MatchOption, All, sym, refl, ap, ◌∙◌, subst, arith}
+use Rattle.std.proofs.Common.{◌≡◌, ℕ, ◌+◌, ◌-◌, ◌<◌, ◌≤◌, List, [], ◌∷◌, ◌++◌, map, Option, Some, None, MatchOption, All, sym, refl, ap, ◌∙◌, subst, arith}
 use Rattle.std.proofs.lemmas.List.Elements.{All-nil, All-cons, All-head, All-rest}
 use Rattle.layout.specs.declared.fault.Refusal.TheVariants.{Nesting}
 use Rattle.layout.specs.declared.kind.Kind.TheVariants.{Struct}
-use Rattle.layout.specs.Nodes.{end_of}
-use Rattle.layout.specs.Rules.{Is, AllRows, SideBySide}
-use Rattle.layout.proofs.Kids.{side_kids}
+use Rattle.layout.specs.declared.node.Node.{Node}
+use Rattle.layout.specs.Nodes.{node_at, end_of}
+use Rattle.layout.specs.Rules.{Is, AllRows, SideBySide, Filled}
+use Rattle.layout.proofs.Kids.{side_kids, side_le}
 use Rattle.recording.specs.declared.node.NodeRef.{NodeRef}
 use Rattle.recording.specs.declared.recording.Recording.{Recording}
 use Rattle.recording.specs.declared.row.Row.{Row}
 use Rattle.recording.specs.declared.rows.Parts.{Parts}
 use Rattle.recording.specs.NodeRefs.{table_of, numbers_of}
-use Rattle.recording.specs.Places.{Place, place_of, places_between, children_of, rows_at}
+use Rattle.recording.specs.Places.{Place, place_of, places_between, children_of, rows_at, IsChildPlace}
 use Rattle.recording.specs.RowPlaces.{parts_left}
 use Rattle.recording.specs.Values.{StandsBelow, AreParts}
 use Rattle.recording.specs.View.{nodes_in}
@@ -64,3 +65,24 @@ parts_below r p (nodes, index) =
     let left : parts_left p ≡ map (λ (q : Place). (q, p.index)) (map (λ (i : ℕ). (n.recording, i)) t.children) =
     ap (map (λ (q : Place). (q, p.index))) (nodes ∙ sides_are n.recording t.children (n.index + 1) (end_of (table_of n) n.index) t.fill) in
     subst (All (StandsBelow r)) (sym left) (sides_below r p.index t.children (n.index + 1) (end_of (table_of n) n.index) (omega arith) t.fill)
+
+-- ---- children
+
+-- one more node at the end
+pub side_more : (ns : List Node) (cs : List ℕ) (p e : ℕ) → SideBySide ns p cs e → 1 ≤ (node_at ns e).span → SideBySide ns p (cs ++ e ∷ []) (end_of ns e)
+side_more ns [] p e s some = subst (λ (q : ℕ). (e ≡ q) × (1 ≤ (node_at ns q).span) × (end_of ns q ≡ end_of ns e)) (sym s) (refl, some, refl)
+side_more ns (c ∷ cs) p e s some = (s.0, s.1, side_more ns cs (end_of ns p) e s.2 some)
+
+pub children_each : (n : NodeRef) → All (IsChildPlace n) (children_of n)
+children_each n =
+    let t = rules_at n Nesting in
+    subst (All (IsChildPlace n)) (sym (sides_are n.recording t.children (n.index + 1) (end_of (table_of n) n.index) t.fill)) (walk [] t.children (n.index + 1) refl t.fill)
+  where
+    walk : (before cs : List ℕ) (p : ℕ) → SideBySide (table_of n) (n.index + 1) before p → SideBySide (table_of n) p cs (end_of (table_of n) n.index)
+        → All (IsChildPlace n) (map (λ (i : ℕ). (n.recording, i)) cs)
+    walk before [] p a s = All-nil (IsChildPlace n)
+    walk before (c ∷ cs) p a s =
+        let up = side_le (table_of n) cs (end_of (table_of n) p) (end_of (table_of n) n.index) s.2 in
+        let here : Filled (table_of n) (n.index + 1) c = (before, subst (SideBySide (table_of n) (n.index + 1) before) (sym s.0) a) in
+        All-cons (IsChildPlace n) (n.recording, c) (map (λ (i : ℕ). (n.recording, i)) cs) (refl, (here, omega (arith, up, s.0, s.1)))
+        (walk (before ++ p ∷ []) cs (end_of (table_of n) p) (side_more (table_of n) before (n.index + 1) p a s.1) s.2)

@@ -4,7 +4,7 @@ use Rattle.recording.specs.declared.node.NodeRef.{NodeRef}
 use Rattle.recording.specs.NodeRefs.{IsOffset}
 use Rattle.recording.proofs.Reading.{rules_at}
 use Rattle.recording.proofs.Windows.{offsets_between}
-use Rattle.recording.proofs.window.Window.elements.Goals as goal
+use Rattle.recording.proofs.window.Window.passed_elements.Goals as goal
 
 pub overflow_add-self : goal.overflow_add-self
 overflow_add-self c =
