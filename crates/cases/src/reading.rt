@@ -1,7 +1,7 @@
 //! The readers of an opened recording, on one of each kind.
 use crate::refusals::{bytes, nodes};
 use layout::{Fault, Kind, Refusal};
-use recording::Recording;
+use recording::{Recording, RowValue};
 use std::test::Fail;
 
 /// What is read of a row: the number that its slot holds; of a Fixed, how many bytes that slot has.
@@ -89,6 +89,75 @@ fn rows_and_trees(rt: HostRuntime) -> Result<(), Fail> {
     assert_eq!(rt; row(&recording, 0, 0), None);
     assert_eq!(rt; row(&recording, 1, 2), None);
     assert_eq!(rt; tree(&recording, 9), None);
+    Ok(())
+}
+
+/// What a row has: its bit, or how many bytes or elements.
+#[derive(Clone, Copy, Debug, PartialEq, Eq)]
+enum RowHas {
+    Nothing,
+    Bit(bool),
+    Fixed(usize),
+    Bytes(usize),
+    List(u64),
+    Struct,
+    Entry,
+}
+
+// Row r of node i, where the recording has it.
+fn row_has_at(recording: &Recording, i: usize, r: u64) -> Option<RowHas> {
+    let has = match recording.get(i)?.get_row(r)?.value() {
+        RowValue::Null => RowHas::Nothing,
+        RowValue::Bit(bit) => RowHas::Bit(bit),
+        RowValue::Fixed(bytes) => RowHas::Fixed(bytes.len()),
+        RowValue::Bytes(bytes) => RowHas::Bytes(bytes.len()),
+        RowValue::List(window) => RowHas::List(window.rows()),
+        RowValue::Struct(_) => RowHas::Struct,
+        RowValue::Entry(_) => RowHas::Entry,
+    };
+    Some(has)
+}
+
+// Node, row, and what it has.
+const VALUES: [(usize, u64, RowHas); 11] = [
+    (0, 0, RowHas::Struct),
+    (1, 0, RowHas::Nothing),
+    (1, 1, RowHas::Bit(false)),
+    (2, 1, RowHas::Fixed(3)),
+    (3, 0, RowHas::Bytes(2)),
+    (4, 0, RowHas::Bytes(0)),
+    (5, 0, RowHas::List(3)),
+    (5, 1, RowHas::List(1)),
+    (6, 3, RowHas::Nothing),
+    (7, 0, RowHas::Entry),
+    (7, 1, RowHas::Nothing),
+];
+
+// First node, columns, rows, and the rows of the columns that are found, or the refusal and the column that it names.
+const COLUMNS: [(usize, u64, u64, Result<u64, (u32, u64)>); 6] = [
+    (0, 1, 2, Ok(2)),
+    (1, 6, 2, Ok(2)),
+    (9, 0, 7, Ok(7)),
+    (1, 7, 2, Err((10, 6))),
+    (1, 2, 3, Err((10, 0))),
+    (1, 1, 2_147_483_648, Err((15, 0))),
+];
+
+#[test]
+fn values_and_columns(rt: HostRuntime) -> Result<(), Fail> {
+    let heap = rt.alloc();
+    let (nodes, bytes) = (nodes(heap, NODES)?, bytes(heap, BYTES)?);
+    let recording = Recording::try_new(nodes.as_slice(), bytes.as_slice())?;
+    for (i, r, has) in VALUES {
+        assert_eq!(rt; row_has_at(&recording, i, r), Some(has), "node {i} row {r}");
+    }
+    for (first, columns, rows, found) in COLUMNS {
+        let answer = recording
+            .columns(first, columns, rows)
+            .map(|found| found.rows())
+            .map_err(|fault| (fault.number(), fault.column));
+        assert_eq!(rt; answer, found, "{columns} columns from node {first}");
+    }
     Ok(())
 }
 
