@@ -94,8 +94,8 @@ impl<'a> Row<'a> {
         }
     }
 
-    /// The row that the key of a valid row names: one of a Dictionary's child.
-    pub fn entry(&self) -> Row<'a>
+    // The row that the key of a valid row names: one of a Dictionary's child.
+    pub(crate) fn entry(&self) -> Row<'a>
         requires is { Is (numbers_of self.now.node) Kind.Dictionary }
         requires valid { mark_of self.now ≡ true }
         ensures { IsEntry self.now result }
@@ -103,8 +103,8 @@ impl<'a> Row<'a> {
         self.node.child().row(self.key())
     }
 
-    /// The parts of a Struct: the same row of each child.
-    pub fn parts(&self) -> Parts<'a>
+    // The parts of a Struct: the same row of each child.
+    pub(crate) fn parts(&self) -> Parts<'a>
         requires { Is (numbers_of self.now.node) Kind.Struct }
         ensures { AreParts self.now result }
     {
