@@ -1,2 +1,3 @@
 pub mod Openings
 pub mod Sent
+pub mod Updates

@@ -1,2 +1,3 @@
 pub mod Openings
 pub mod WindowCases
+pub mod DictionaryCases

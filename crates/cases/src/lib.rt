@@ -3,7 +3,10 @@
 
 ghost use Rattle.cases.specs.Openings.{Openings};
 ghost use Rattle.cases.specs.WindowCases.{WindowCases};
+ghost use Rattle.cases.specs.DictionaryCases.{DictionaryCases};
 
+#[cfg(test)]
+mod collecting;
 #[cfg(test)]
 mod options;
 #[cfg(test)]
@@ -21,4 +24,9 @@ pub fn opening_cases_stand()
 /// The windows of specs/WindowCases.antt have the values, and are sent, as they say there.
 pub fn window_cases_stand()
     ensures { WindowCases }
+{}
+
+/// The dictionaries of specs/DictionaryCases.antt have the updates that it says there.
+pub fn dictionary_cases_stand()
+    ensures { DictionaryCases }
 {}

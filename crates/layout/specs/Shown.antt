@@ -46,6 +46,16 @@ count (lists l w m cs s) = length cs
 count (struct l m n ss) = n
 count (dictionary l w m ks s) = length ks
 
+-- what it shows of the windows that it passes
+abbrev pub below : Shown → Showns
+below (nulls l n) = none
+below (bools l m b) = none
+below (fixed l w m vs) = none
+below (bytes l w m vs) = none
+below (lists l w m cs s) = more s none
+below (struct l m n ss) = ss
+below (dictionary l w m ks s) = more s none
+
 -- ---- the values of its rows
 
 mutual
@@ -55,10 +65,12 @@ mutual
     bytes : List ℕ → Value
     list : Values → Value
     struct : Values → Value
+    deriving Discrete as Value-discrete
 
   pub data Values : Type 0 where
     none : Values
     more : Value → Values → Values
+    deriving Discrete as Values-discrete
 
 abbrev pub held : List Value → Values
 held [] = none
@@ -120,10 +132,12 @@ mutual
     lists : ℕ → ℕ → Shape → Shape
     struct : ℕ → Shapes → Shape
     dictionary : ℕ → ℕ → Shape → Shape
+    deriving Discrete as Shape-discrete
 
   pub data Shapes : Type 0 where
     none : Shapes
     more : Shape → Shapes → Shapes
+    deriving Discrete as Shapes-discrete
 
 unfoldable mutual
   pub shape : Shown → Shape

@@ -46,7 +46,8 @@ pub struct BitSlice<'a> {
 }
 
 impl<'a> BitSlice<'a> {
-    ghost use Rattle.std.specs.Prelude.{not, count_by};
+    ghost use Rattle.std.specs.Prelude.{not, count_by, take_while};
+    ghost use Rattle.std.specs.Bool.{beq};
     ghost use Rattle.std.specs.List.{range_with_len};
     ghost use Rattle.layout.specs.BitSlices.{bit_in, bits_in, IsPart};
 
@@ -68,6 +69,13 @@ impl<'a> BitSlice<'a> {
         ensures { result ≡ bit_in self.now i }
     {
         read_bit(self.bytes, self.first + i)
+    }
+
+    /// How many of them, from the first on, are as `bit` says.
+    pub fn count_leading(&self, bit: bool) -> u64
+        ensures { result ≡ length (take_while (λ i. beq (bit_in self.now i) bit) (range_with_len 0 self.now.len)) }
+    {
+        (0..self.len).take_while(|i| self.is_set(*i) == bit).count() as u64
     }
 
     /// How many of them are 0.

@@ -1,13 +1,16 @@
--- What a line adds to the last case.
+-- What more a line says of the last case.
 use Rattle.std.specs.Prelude.{List}
 use Rattle.orders.specs.declared.More.{More}
 use Rattle.orders.specs.declared.More.TheVariants as more
-use Rattle.orders.specs.Orders.{Spelled, appended, asked, begun, to_last}
+use Rattle.orders.specs.Options.{with_alignment, with_dictionary_handling, with_error_on_replacement}
+use Rattle.orders.specs.Orders.{Spelled, appended, optioned, asked, of_last}
 
 abbrev pub added : More → Spelled → Spelled
 added (more.Run part bytes) = appended part bytes.now
-added (more.Show show) = asked show
+added (more.Align n) = optioned (with_alignment n)
+added (more.Handling h) = optioned (with_dictionary_handling h)
+added (more.ErrorOnReplacement e) = optioned (with_error_on_replacement e)
+added (more.Call call) = asked call
 
--- to the last case, or to an unnamed one where there is none yet
 abbrev pub to_last_of : More → List Spelled → List Spelled
-to_last_of m cs = to_last (added m) (begun cs)
+to_last_of m cs = of_last (added m) cs

@@ -1,17 +1,21 @@
 -- What a line of an order says.
-use Rattle.std.specs.Prelude.{◌≡◌, ℕ, zero, suc, cond, ◌⊎◌, List, [], ◌∷◌, Some, None, Ok, Err, vec_items, string_bytes, codes, IsUtf8, Option, Result, slice_index}
+use Rattle.std.specs.Prelude.{◌≡◌, ℕ, zero, suc, Bool, true, false, cond, ◌⊎◌, List, [], ◌∷◌, Some, None, Ok, Err, vec_items, string_bytes, codes, IsUtf8, Option, Result, slice_index}
 use Rattle.std.specs.Option.{ok_or}
 use Rattle.std.specs.Str.{bytes_eq}
 use Rattle.layout.specs.declared.node.Node as layout
+use Rattle.recording.specs.declared.options.DictionaryHandling.{DictionaryHandling}
+use Rattle.recording.specs.declared.options.DictionaryHandling.TheVariants.{Resend, Delta}
+use Rattle.orders.specs.declared.call.Batch.{Batch}
+use Rattle.orders.specs.declared.call.Call.{Call}
+use Rattle.orders.specs.declared.call.Call.TheVariants as call
 use Rattle.orders.specs.declared.error.Why.{Why}
-use Rattle.orders.specs.declared.error.Why.TheVariants.{UnknownItem, MissingWord, NotText, Memory}
+use Rattle.orders.specs.declared.error.Why.TheVariants.{UnknownItem, MissingWord, NotText, UnknownWord, Memory}
 use Rattle.orders.specs.declared.item.Item.{Item}
 use Rattle.orders.specs.declared.item.Item.TheVariants as item
 use Rattle.orders.specs.declared.item.Part.{Part}
 use Rattle.orders.specs.declared.item.Part.TheVariants.{Nodes, Bytes}
-use Rattle.orders.specs.declared.item.Show as request
 use Rattle.orders.specs.declared.item.Verb.{Verb}
-use Rattle.orders.specs.declared.item.Verb.TheVariants.{Case, Node, Hex, File, Show}
+use Rattle.orders.specs.declared.item.Verb.TheVariants.{Case, Node, Hex, File, Align, Handling, ErrorOnReplacement, Show, Id, Collect}
 use Rattle.orders.specs.Texts.{is_empty, uncommented, word_in, after_word, at_end, only_word}
 use Rattle.orders.specs.Numbers.{number_read}
 use Rattle.orders.specs.Hexes.{hex_read}
@@ -51,11 +55,38 @@ map_ok f (Err why) = Err why
 abbrev pub node_read : List ℕ → Result layout.Node Why
 node_read text = map_ok node_from (numbers_in 10 text)
 
-abbrev pub show_from : List ℕ → request.Show
-show_from ns = record { first = slice_index ns 0; columns = slice_index ns 1; rows = slice_index ns 2 }
+abbrev pub only_number : List ℕ → Result ℕ Why
+only_number text = map_ok (λ ns. slice_index ns 0) (numbers_in 1 text)
 
-abbrev pub show_read : List ℕ → Result request.Show Why
-show_read text = map_ok show_from (numbers_in 3 text)
+abbrev pub batch_from : List ℕ → Batch
+batch_from ns = record { first = slice_index ns 0; columns = slice_index ns 1; rows = slice_index ns 2 }
+
+abbrev pub batch_read : List ℕ → Result Batch Why
+batch_read text = map_ok batch_from (numbers_in 3 text)
+
+-- ---- one of some words
+
+-- what a word stands for, where it is one of those that may stand there
+abbrev pub chosen : {X : Type 0} → (List ℕ → Option X) → Result (List ℕ) Why → Result X Why
+chosen choice (Err why) = Err why
+chosen choice (Ok word) = ok_or (choice word) UnknownWord
+
+abbrev pub handling_of : List ℕ → Option DictionaryHandling
+handling_of w = cond (bytes_eq w (codes "resend")) (Some Resend) (cond (bytes_eq w (codes "delta")) (Some Delta) None)
+
+abbrev pub handling_read : List ℕ → Result DictionaryHandling Why
+handling_read text = chosen handling_of (only_word text)
+
+abbrev pub flag_of : List ℕ → Option Bool
+flag_of w = cond (bytes_eq w (codes "0")) (Some false) (cond (bytes_eq w (codes "1")) (Some true) None)
+
+abbrev pub flag_read : List ℕ → Result Bool Why
+flag_read text = chosen flag_of (only_word text)
+
+-- ---- no word more
+
+abbrev pub id_read : List ℕ → Result Call Why
+id_read text = at_end text call.Id
 
 -- ---- lines
 
@@ -68,7 +99,12 @@ verb_of w =
     (cond (bytes_eq w (codes "bytes")) (Some (Hex Bytes))
     (cond (bytes_eq w (codes "nodesfile")) (Some (File Nodes))
     (cond (bytes_eq w (codes "bytesfile")) (Some (File Bytes))
-    (cond (bytes_eq w (codes "show")) (Some Show) None))))))
+    (cond (bytes_eq w (codes "align")) (Some Align)
+    (cond (bytes_eq w (codes "handling")) (Some Handling)
+    (cond (bytes_eq w (codes "error_on_replacement")) (Some ErrorOnReplacement)
+    (cond (bytes_eq w (codes "show")) (Some Show)
+    (cond (bytes_eq w (codes "id")) (Some Id)
+    (cond (bytes_eq w (codes "collect")) (Some Collect) None)))))))))))
 
 abbrev pub verb_read : List ℕ → Result Verb Why
 verb_read w = ok_or (verb_of w) UnknownItem
@@ -79,14 +115,20 @@ pub data Saying : Type 0 where
   a_node : layout.Node → Saying
   a_hex : Part → List ℕ → Saying
   a_file : Part → List ℕ → Saying
-  a_show : request.Show → Saying
+  an_alignment : ℕ → Saying
+  a_handling : DictionaryHandling → Saying
+  an_error_on_replacement : Bool → Saying
+  a_call : Call → Saying
 
 abbrev pub said : Item → Saying
 said (item.Case name) = a_case (string_bytes name)
 said (item.Node node) = a_node node
 said (item.Hex part bytes) = a_hex part (vec_items bytes)
 said (item.File part path) = a_file part (string_bytes path)
-said (item.Show show) = a_show show
+said (item.Align n) = an_alignment n
+said (item.Handling h) = a_handling h
+said (item.ErrorOnReplacement e) = an_error_on_replacement e
+said (item.Call call) = a_call call
 
 -- a name or a path is text
 abbrev pub IsText : Saying → Type 0
@@ -94,14 +136,22 @@ IsText (a_case name) = IsUtf8 name
 IsText (a_node node) = Unit {0}
 IsText (a_hex part bytes) = Unit {0}
 IsText (a_file part path) = IsUtf8 path
-IsText (a_show show) = Unit {0}
+IsText (an_alignment n) = Unit {0}
+IsText (a_handling h) = Unit {0}
+IsText (an_error_on_replacement e) = Unit {0}
+IsText (a_call call) = Unit {0}
 
 unfoldable pub rest_read : Verb → List ℕ → Result Saying Why
 rest_read Case rest = map_ok a_case (only_word rest)
 rest_read Node rest = map_ok a_node (node_read rest)
 rest_read (Hex part) rest = map_ok (a_hex part) (hex_read rest)
 rest_read (File part) rest = map_ok (a_file part) (only_word rest)
-rest_read Show rest = map_ok a_show (show_read rest)
+rest_read Align rest = map_ok an_alignment (only_number rest)
+rest_read Handling rest = map_ok a_handling (handling_read rest)
+rest_read ErrorOnReplacement rest = map_ok an_error_on_replacement (flag_read rest)
+rest_read Show rest = map_ok (λ batch. a_call (call.Show batch)) (batch_read rest)
+rest_read Id rest = map_ok a_call (id_read rest)
+rest_read Collect rest = map_ok (λ batch. a_call (call.Collect batch)) (batch_read rest)
 
 abbrev pub item_by : Result Verb Why → List ℕ → Result (Option Saying) Why
 item_by (Err why) rest = Err why

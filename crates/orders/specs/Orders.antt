@@ -5,14 +5,16 @@ use Rattle.std.specs.declared.alloc.Global.{Global}
 use Rattle.std.specs.declared.io.Error.{Error}
 use Rattle.layout.specs.Nodes.{node_in}
 use Rattle.orders.specs.declared.Case.{Case}
+use Rattle.orders.specs.declared.call.Call.{Call}
 use Rattle.orders.specs.declared.error.OrderError.{OrderError}
 use Rattle.orders.specs.declared.error.Why.{Why}
 use Rattle.orders.specs.declared.error.Why.TheVariants.{File, Memory}
 use Rattle.orders.specs.declared.item.Part.{Part}
 use Rattle.orders.specs.declared.item.Part.TheVariants.{Nodes, Bytes}
-use Rattle.orders.specs.declared.item.Show.{Show}
+use Rattle.orders.specs.declared.options.Options.{Options}
+use Rattle.orders.specs.Options.{default_options, with_alignment, with_dictionary_handling, with_error_on_replacement}
 use Rattle.orders.specs.Texts.{lines_in}
-use Rattle.orders.specs.Items.{Saying, a_case, a_node, a_hex, a_file, a_show, item_read, IsTextIn, Refuses}
+use Rattle.orders.specs.Items.{Saying, a_case, a_node, a_hex, a_file, an_alignment, a_handling, an_error_on_replacement, a_call, item_read, IsTextIn, Refuses}
 
 -- ---- cases
 
@@ -21,27 +23,31 @@ pub record Spelled : Type 0 where
   pub name : Option (List ℕ)
   pub nodes : List ℕ
   pub bytes : List ℕ
-  pub shows : List Show
+  pub options : Options
+  pub calls : List Call
 
 abbrev pub spelled : Case → Spelled
-spelled c = record { name = option_map string_bytes c.name; nodes = vec_items c.nodes; bytes = vec_items c.bytes; shows = vec_items c.shows }
+spelled c = record { name = option_map string_bytes c.name; nodes = vec_items c.nodes; bytes = vec_items c.bytes; options = c.options; calls = vec_items c.calls }
 
 abbrev pub cases_in : Vec Case Global → List Spelled
 cases_in cases = map spelled (vec_items cases)
 
 abbrev pub fresh : Option (List ℕ) → Spelled
-fresh name = record { name = name; nodes = []; bytes = []; shows = [] }
+fresh name = record { name = name; nodes = []; bytes = []; options = default_options; calls = [] }
 
--- one more case, empty so far
+-- one more case, empty so far and with the default options
 abbrev pub started : Option (List ℕ) → List Spelled → List Spelled
 started name cs = cs ++ fresh name ∷ []
 
 abbrev pub appended : Part → List ℕ → Spelled → Spelled
-appended Nodes more c = record { name = c.name; nodes = c.nodes ++ more; bytes = c.bytes; shows = c.shows }
-appended Bytes more c = record { name = c.name; nodes = c.nodes; bytes = c.bytes ++ more; shows = c.shows }
+appended Nodes more c = record c { nodes = c.nodes ++ more }
+appended Bytes more c = record c { bytes = c.bytes ++ more }
 
-abbrev pub asked : Show → Spelled → Spelled
-asked show c = record { name = c.name; nodes = c.nodes; bytes = c.bytes; shows = c.shows ++ show ∷ [] }
+abbrev pub optioned : (Options → Options) → Spelled → Spelled
+optioned f c = record c { options = f c.options }
+
+abbrev pub asked : Call → Spelled → Spelled
+asked call c = record c { calls = c.calls ++ call ∷ [] }
 
 -- an unnamed case where there is none yet
 abbrev pub begun : List Spelled → List Spelled
@@ -53,13 +59,9 @@ to_last f [] = []
 to_last f (c ∷ []) = f c ∷ []
 to_last f (c ∷ d ∷ cs) = c ∷ to_last f (d ∷ cs)
 
--- more bytes of the last case
-abbrev pub grown : Part → List ℕ → List Spelled → List Spelled
-grown part more cs = to_last (appended part more) (begun cs)
-
--- rows of the last case are to be shown
-abbrev pub showing : Show → List Spelled → List Spelled
-showing show cs = to_last (asked show) (begun cs)
+-- a change of the last case, or of an unnamed one where there is none yet
+abbrev pub of_last : (Spelled → Spelled) → List Spelled → List Spelled
+of_last f cs = to_last f (begun cs)
 
 -- ---- lines
 
@@ -67,10 +69,13 @@ showing show cs = to_last (asked show) (begun cs)
 abbrev pub Does : Option Saying → List Spelled → List Spelled → Type 0
 Does None cs ds = ds ≡ cs
 Does (Some (a_case name)) cs ds = ds ≡ started (Some name) cs
-Does (Some (a_node node)) cs ds = (bytes : List ℕ) × (length bytes ≡ 80) × (node_in bytes 0 ≡ node) × (ds ≡ grown Nodes bytes cs)
-Does (Some (a_hex part bytes)) cs ds = ds ≡ grown part bytes cs
-Does (Some (a_file part path)) cs ds = (bytes : List ℕ) × (ds ≡ grown part bytes cs)
-Does (Some (a_show show)) cs ds = ds ≡ showing show cs
+Does (Some (a_node node)) cs ds = (bytes : List ℕ) × (length bytes ≡ 80) × (node_in bytes 0 ≡ node) × (ds ≡ of_last (appended Nodes bytes) cs)
+Does (Some (a_hex part bytes)) cs ds = ds ≡ of_last (appended part bytes) cs
+Does (Some (a_file part path)) cs ds = (bytes : List ℕ) × (ds ≡ of_last (appended part bytes) cs)
+Does (Some (an_alignment n)) cs ds = ds ≡ of_last (optioned (with_alignment n)) cs
+Does (Some (a_handling h)) cs ds = ds ≡ of_last (optioned (with_dictionary_handling h)) cs
+Does (Some (an_error_on_replacement e)) cs ds = ds ≡ of_last (optioned (with_error_on_replacement e)) cs
+Does (Some (a_call call)) cs ds = ds ≡ of_last (asked call) cs
 
 abbrev pub Followed : List ℕ → List Spelled → List Spelled → Type 0
 Followed line cs ds = (s : Option Saying) × (item_read line ≡ Ok s) × Does s cs ds

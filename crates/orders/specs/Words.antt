@@ -3,7 +3,7 @@ use Rattle.std.specs.Prelude.{ℕ, List, ◌++◌, Some, None, Option, codes, de
 use Rattle.std.specs.Option.{option_map}
 use Rattle.orders.specs.declared.error.OrderError.{OrderError}
 use Rattle.orders.specs.declared.error.Why.{Why}
-use Rattle.orders.specs.declared.error.Why.TheVariants.{UnknownItem, MissingWord, ExtraWord, NotText, NotNumber, NumberTooLarge, NotHex, File, Memory}
+use Rattle.orders.specs.declared.error.Why.TheVariants.{UnknownItem, MissingWord, ExtraWord, NotText, NotNumber, NumberTooLarge, NotHex, UnknownWord, File, Memory}
 
 -- what the system says of a file is not said here
 abbrev pub why_words : Why → Option (List ℕ)
@@ -14,6 +14,7 @@ why_words NotText = Some (codes "a word is not UTF-8")
 why_words NotNumber = Some (codes "a number is asked for, in decimal digits")
 why_words NumberTooLarge = Some (codes "a number is above 18446744073709551615")
 why_words NotHex = Some (codes "hex is asked for, in pairs of digits, or -")
+why_words UnknownWord = Some (codes "the word is none of those that may stand here")
 why_words (File error) = None
 why_words Memory = Some (codes "out of memory")
 

@@ -18,6 +18,7 @@ pub enum Why {
     NotNumber,
     NumberTooLarge,
     NotHex,
+    UnknownWord,
     File(io::Error),
     Memory,
 }
@@ -35,6 +36,7 @@ impl fmt::Display for Why {
             Why::NotNumber => f.write_str("a number is asked for, in decimal digits"),
             Why::NumberTooLarge => f.write_str("a number is above 18446744073709551615"),
             Why::NotHex => f.write_str("hex is asked for, in pairs of digits, or -"),
+            Why::UnknownWord => f.write_str("the word is none of those that may stand here"),
             Why::File(error) => write!(f, "{error}"),
             Why::Memory => f.write_str("out of memory"),
         }

@@ -1,13 +1,15 @@
 //! What a line of an order says.
 ghost use Rattle.std.specs.Prelude.{◌≡◌, string_bytes, IsUtf8};
 ghost use Rattle.orders.specs.Texts.{only_word};
-ghost use Rattle.orders.specs.Items.{numbers_in, node_read, show_read, verb_read, said, said_by, rest_read, item_read, IsText, IsTextIn, ReadsText};
+ghost use Rattle.orders.specs.Items.{numbers_in, node_read, only_number, handling_read, flag_read, batch_read, id_read, verb_read, said, said_by, rest_read, item_read, IsText, IsTextIn, ReadsText};
 
+use crate::call::{Batch, Call};
 use crate::error::Why;
 use crate::hex::read_hex;
 use crate::number::read_number;
 use crate::text::{expect_end, expect_word, only_word, split_word, without_comment};
 use layout::Node;
+use recording::DictionaryHandling;
 use std::alloc::Global;
 use std::str;
 
@@ -19,14 +21,6 @@ pub(crate) enum Part {
     Bytes,
 }
 
-/// Rows of columns to show: a first node, how many columns, and how many rows they have.
-#[derive(Clone, Copy, Debug, PartialEq, Eq, Hash)]
-pub struct Show {
-    pub first: u64,
-    pub columns: u64,
-    pub rows: u64,
-}
-
 /// What to do to the cases so far.
 // Each is matched once, where it is done.
 // No `Debug`: it would print the bytes of a recording.
@@ -36,7 +30,10 @@ pub(crate) enum Item {
     Node(Node),
     Hex(Part, Vec<u8>),
     File(Part, String),
-    Show(Show),
+    Align(u64),
+    Handling(DictionaryHandling),
+    ErrorOnReplacement(bool),
+    Call(Call),
 }
 
 // The word that a line begins with, matched once; what a line means is defined by it.
@@ -46,7 +43,12 @@ enum Verb {
     Node,
     Hex(Part),
     File(Part),
+    Align,
+    Handling,
+    ErrorOnReplacement,
     Show,
+    Id,
+    Collect,
 }
 
 impl TryFrom<&[u8]> for Verb {
@@ -62,7 +64,12 @@ impl TryFrom<&[u8]> for Verb {
             b"bytes" => Ok(Verb::Hex(Part::Bytes)),
             b"nodesfile" => Ok(Verb::File(Part::Nodes)),
             b"bytesfile" => Ok(Verb::File(Part::Bytes)),
+            b"align" => Ok(Verb::Align),
+            b"handling" => Ok(Verb::Handling),
+            b"error_on_replacement" => Ok(Verb::ErrorOnReplacement),
             b"show" => Ok(Verb::Show),
+            b"id" => Ok(Verb::Id),
+            b"collect" => Ok(Verb::Collect),
             _ => Err(Why::UnknownItem),
         }
     }
@@ -86,11 +93,16 @@ fn read_rest(heap: Global, verb: Verb, rest: &[u8]) -> Result<Item, Why>
     ensures { ReadsText said IsText result (rest_read verb rest.now) }
 {
     match verb {
-        Verb::Case => Ok(Item::Case(read_word(heap, rest)?)),
-        Verb::Node => Ok(Item::Node(read_node(rest)?)),
-        Verb::Hex(part) => Ok(Item::Hex(part, read_hex(heap, rest)?)),
-        Verb::File(part) => Ok(Item::File(part, read_word(heap, rest)?)),
-        Verb::Show => Ok(Item::Show(read_show(rest)?)),
+        Verb::Case => read_word(heap, rest).map(Item::Case),
+        Verb::Node => read_node(rest).map(Item::Node),
+        Verb::Hex(part) => read_hex(heap, rest).map(|bytes| Item::Hex(part, bytes)),
+        Verb::File(part) => read_word(heap, rest).map(|path| Item::File(part, path)),
+        Verb::Align => only_number(rest).map(Item::Align),
+        Verb::Handling => read_handling(rest).map(Item::Handling),
+        Verb::ErrorOnReplacement => read_flag(rest).map(Item::ErrorOnReplacement),
+        Verb::Show => read_batch(rest).map(|batch| Item::Call(Call::Show(batch))),
+        Verb::Id => read_id(rest).map(Item::Call),
+        Verb::Collect => read_batch(rest).map(|batch| Item::Call(Call::Collect(batch))),
     }
 }
 
@@ -109,16 +121,55 @@ fn read_node(text: &[u8]) -> Result<Node, Why>
     Ok(Node::from(read_numbers(text)?))
 }
 
-// What three numbers ask to show, and nothing after them.
-fn read_show(text: &[u8]) -> Result<Show, Why>
-    ensures { result ≡ show_read text.now }
+// The only word of a text, a number.
+fn only_number(text: &[u8]) -> Result<u64, Why>
+    ensures { result ≡ only_number text.now }
+{
+    let [number] = read_numbers::<1>(text)?;
+    Ok(number)
+}
+
+// The handling of dictionaries that the only word names.
+fn read_handling(text: &[u8]) -> Result<DictionaryHandling, Why>
+    ensures { result ≡ handling_read text.now }
+{
+    match only_word(text)? {
+        b"resend" => Ok(DictionaryHandling::Resend),
+        b"delta" => Ok(DictionaryHandling::Delta),
+        _ => Err(Why::UnknownWord),
+    }
+}
+
+// What the only word says: 1 is yes, and 0 is no.
+fn read_flag(text: &[u8]) -> Result<bool, Why>
+    ensures { result ≡ flag_read text.now }
+{
+    match only_word(text)? {
+        b"0" => Ok(false),
+        b"1" => Ok(true),
+        _ => Err(Why::UnknownWord),
+    }
+}
+
+// The batch that three numbers spell, and nothing after them.
+fn read_batch(text: &[u8]) -> Result<Batch, Why>
+    ensures { result ≡ batch_read text.now }
 {
     let [first, columns, rows] = read_numbers::<3>(text)?;
-    Ok(Show {
+    Ok(Batch {
         first,
         columns,
         rows,
     })
+}
+
+// The call for the next id, which has no words.
+#[tactic(auto, unfolding(crate::specs::Texts::at_end))]
+fn read_id(text: &[u8]) -> Result<Call, Why>
+    ensures { result ≡ id_read text.now }
+{
+    expect_end(text)?;
+    Ok(Call::Id)
 }
 
 // So many numbers, a word each, and nothing after them.

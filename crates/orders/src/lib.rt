@@ -3,7 +3,14 @@
 //! - `case NAME` starts a case. The lines below belong to the last case that was started.
 //! - `node` and ten numbers append a node to the table: kind mark size rows from bitmap slots data extent span.
 //! - `nodes HEX` and `nodesfile PATH` append bytes to the table, `bytes HEX` and `bytesfile PATH` to the bytes.
-//! - `show FIRST COLUMNS ROWS` asks to show the rows of columns: a first node, how many columns, and how many rows they have.
+//! - `align N` sets the alignment, 64 where no line does.
+//! - `handling resend` and `handling delta` set how the case handles dictionaries that grew, by Resend where no line does.
+//! - `error_on_replacement 1` refuses a dictionary that would be replaced, and `error_on_replacement 0`, the default, does not.
+//! - `show FIRST COLUMNS ROWS` asks to show the rows of a batch: a first node, how many columns, and how many rows they have.
+//! - `id` asks for the next id.
+//! - `collect FIRST COLUMNS ROWS` asks to collect the dictionaries of a batch.
+//!
+//! The three options stand for the whole case, wherever their lines are; of two lines that set the same, the last counts.
 //!
 //! Blanks stand between words, and `#` starts a comment. Hex is in pairs of digits, and `-` is none.
 #![tactic(auto)]
@@ -13,21 +20,25 @@ ghost use Rattle.std.specs.Option.{option_map};
 ghost use Rattle.orders.specs.Orders.{spelled, fresh, started, cases_in, begun, Makes, Turns, Follows, OrderRead};
 ghost use Rattle.orders.specs.Adding.{added, to_last_of};
 
+mod call;
 mod error;
 mod hex;
 mod item;
 mod number;
+mod options;
 mod text;
 
+pub use call::{Batch, Call};
 pub use error::{OrderError, Why};
-pub use item::Show;
 use item::{Item, Part, read_item};
+pub use options::Options;
+use recording::DictionaryHandling;
 use std::alloc::Global;
 use std::fs;
 use std::rt::Files;
 use text::Lines;
 
-/// A recording to open, its node table and its bytes, and what to show of it. A case before the first `case` line has no name.
+/// A recording to open, its node table and its bytes, the options that its lines set, and what they ask for. A case before the first `case` line has no name.
 // The two runs stand apart, since an opening takes them so.
 // No `Debug`: it would print the bytes of a recording.
 #[derive(Drop)]
@@ -35,7 +46,8 @@ pub struct Case {
     pub name: Option<String>,
     pub nodes: Vec<u8>,
     pub bytes: Vec<u8>,
-    pub shows: Vec<Show>,
+    pub options: Options,
+    pub calls: Vec<Call>,
 }
 
 impl Case {
@@ -46,7 +58,8 @@ impl Case {
             name,
             nodes: Vec::new(heap),
             bytes: Vec::new(heap),
-            shows: Vec::new(heap),
+            options: Options::default(),
+            calls: Vec::new(heap),
         }
     }
 
@@ -56,17 +69,23 @@ impl Case {
         match more {
             More::Run(Part::Nodes, bytes) => self.nodes.extend_from_slice(bytes)?,
             More::Run(Part::Bytes, bytes) => self.bytes.extend_from_slice(bytes)?,
-            More::Show(show) => self.shows.push(show)?,
+            More::Align(alignment) => self.options.alignment = alignment,
+            More::Handling(handling) => self.options.dictionary_handling = handling,
+            More::ErrorOnReplacement(refuse) => self.options.error_on_replacement = refuse,
+            More::Call(call) => self.calls.push(call)?,
         }
         Ok(())
     }
 }
 
-// What a line adds to a case.
+// What more a line says of a case.
 #[derive(Clone, Copy)]
 enum More<'a> {
     Run(Part, &'a [u8]),
-    Show(Show),
+    Align(u64),
+    Handling(DictionaryHandling),
+    ErrorOnReplacement(bool),
+    Call(Call),
 }
 
 /// The cases of an order, at least one.
@@ -98,7 +117,10 @@ fn follow(rt: &(impl Files + AllocGlobal), line: &[u8], cases: &mut Vec<Case>) -
         Item::File(part, path) => {
             add_to_last(cases, More::Run(part, &fs::read(rt, path.as_str())?))
         }
-        Item::Show(show) => add_to_last(cases, More::Show(show)),
+        Item::Align(alignment) => add_to_last(cases, More::Align(alignment)),
+        Item::Handling(handling) => add_to_last(cases, More::Handling(handling)),
+        Item::ErrorOnReplacement(refuse) => add_to_last(cases, More::ErrorOnReplacement(refuse)),
+        Item::Call(call) => add_to_last(cases, More::Call(call)),
     }
 }
 

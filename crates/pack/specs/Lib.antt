@@ -1,2 +1,3 @@
 pub mod Levels
 pub mod Shown
+pub mod Collected

@@ -1,8 +1,11 @@
-//! Opens the recordings that an order spells, and prints their trees and the rows that it asks for, or the rules that they break.
+//! Opens the recordings that an order spells, and prints their trees and what it asks for, the rows and the dictionaries of
+//! batches, or the rules that they break.
 #![tactic(auto)]
 
+mod calls;
 mod sample;
 mod show;
+mod update;
 mod value;
 
 use orders::{Case, OrderError, read_order};

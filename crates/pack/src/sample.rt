@@ -1,7 +1,7 @@
 //! The order that is followed where the command line names none.
 
-/// A struct of lists, byte strings and a dictionary, with nulls; columns of other kinds; and a dictionary that a valid row
-/// reaches past.
+/// A struct of lists, byte strings and a dictionary, with nulls; columns of other kinds; a dictionary that a valid row
+/// reaches past; dictionaries that are collected, with each update and a refused one; and an alignment that is none.
 pub const SAMPLE: &str = "\
 # node: kind mark size rows from bitmap slots data extent span
 # A bitmap is given as its place plus 1, and 0 is none.
@@ -43,4 +43,44 @@ node 3 1 0 2 0 0 4 16 7 1
 bytes 00 ff 01 00                 # the second row's key is -1
 bytes 00000000 03000000 07000000
 bytes 726564 626c7565
+
+case dictionaries
+handling delta
+node 8 1 1 2 0 0 0  0 0 2  # a dictionary: a, b
+node 3 2 0 2 0 0 2 18 2 1
+node 8 1 1 2 0 0 0  0 0 2  # the same values at another place
+node 3 2 0 2 0 0 2 21 2 1
+node 8 1 1 2 0 0 0  0 0 2  # a, b, c
+node 3 2 0 3 0 0 2 18 3 1
+node 8 1 1 1 0 0 0  0 0 2  # a
+node 3 2 0 1 0 0 2 18 1 1
+bytes 00 01                                # place  0: the keys
+bytes 00000000 01000000 02000000 03000000  # place  2: where the values begin and end
+bytes 616263 6162                          # place 18: the values
+collect 0 1 2                              # there is no id yet
+id
+collect 0 1 2                              # nothing was kept
+collect 2 1 2                              # what was kept
+collect 4 1 2                              # one value more
+collect 6 1 1                              # fewer
+id
+collect 0 2 2                              # two columns, and so two ids
+collect 1 1 2                              # a column without a dictionary
+
+case replacement
+error_on_replacement 1
+node 7 0 0 1 0 0 0 0 0 3   # a struct of a dictionary: a
+node 8 1 1 1 0 0 0 0 0 2
+node 3 2 0 1 0 0 1 9 1 1
+node 7 0 0 1 0 0 0 0 0 3   # the same with b
+node 8 1 1 1 0 0 0 0 0 2
+node 3 2 0 1 0 0 1 10 1 1
+bytes 00 00000000 01000000 61 62
+id
+collect 0 1 1
+collect 3 1 1              # other values
+collect 0 1 1              # a refusal keeps what was kept
+
+case alignment
+align 24
 ";

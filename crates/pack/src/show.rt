@@ -1,17 +1,21 @@
 //! What is printed of a case.
-ghost use Rattle.std.specs.Prelude.{◌≡◌, Some, All};
+ghost use Rattle.std.specs.Prelude.{◌≡◌, false, Some, All, MatchResult};
+ghost use Rattle.layout.specs.declared.fault.Refusal.TheVariants as refused;
+ghost use Rattle.layout.specs.Faults.{fault_of};
 ghost use Rattle.layout.specs.Nodes.{depth_of};
 ghost use Rattle.layout.specs.Rows.{nulls_at};
 ghost use Rattle.layout.specs.Rules.{Is};
+ghost use Rattle.recording.specs.Alignments.{is_alignment};
 ghost use Rattle.recording.specs.NodeRefs.{table_of, run_of, numbers_of};
+ghost use Rattle.recording.specs.Options.{Sets};
 ghost use Rattle.recording.specs.Trees.{places_left};
 ghost use Rattle.pack.specs.Levels.{IsDeep};
 ghost use Rattle.pack.specs.Shown.{node_shown};
 
-use crate::value::RowText;
+use crate::calls::{show_calls, show_fault_of};
 use layout::{Fault, Kind, Node};
-use orders::{Case, Show};
-use recording::{Columns, NodeRef, Recording, Trees};
+use orders::{Case, Options};
+use recording::{IpcWriteOptions, NodeRef, Recording, Trees};
 use std::{fmt, io};
 
 /// What is printed of a node.
@@ -47,18 +51,12 @@ impl fmt::Display for NodeLine {
     }
 }
 
-/// Opens a case, and prints its nodes and the rows that it asks for, or the rule that it breaks.
+/// Opens a case, and prints its nodes and what its calls answer, or the rule that it breaks.
 pub(crate) fn show_case(rt: &impl Print, case: &Case) -> io::Result<()> {
     show_name(rt, case)?;
-    match Recording::try_new(&case.nodes, &case.bytes) {
-        Ok(recording) => {
-            show_recording(rt, &recording)?;
-            for show in case.shows.iter() {
-                show_columns(rt, &recording, *show)?;
-            }
-            Ok(())
-        }
-        Err(fault) => show_fault(rt, "open", fault),
+    match write_options(&case.options) {
+        Ok(options) => show_opening(rt, case, &options),
+        Err(fault) => show_fault_of(rt, "options", fault),
     }
 }
 
@@ -67,9 +65,27 @@ fn show_name(rt: &impl Print, case: &Case) -> io::Result<()> {
     println!(rt; "case {name}")
 }
 
-fn show_fault(rt: &impl Print, what: &str, fault: Fault) -> io::Result<()> {
-    println!(rt; "{what} {fault}")?;
-    println!(rt; "{}", fault.refusal)
+// The options that a case sets, or the refusal of its alignment.
+fn write_options(options: &Options) -> Result<IpcWriteOptions, Fault>
+    ensures { MatchResult result
+        (λ o. Sets o options.now.alignment options.now.dictionary_handling options.now.error_on_replacement)
+        (λ fault. (is_alignment options.now.alignment ≡ false) × (fault ≡ fault_of refused.Alignment 0 0)) }
+{
+    let set = IpcWriteOptions::try_new(options.alignment as usize)?
+        .with_dictionary_handling(options.dictionary_handling)
+        .with_error_on_replacement(options.error_on_replacement);
+    Ok(set)
+}
+
+// Prints the nodes of a case's recording, and then what its calls answer.
+fn show_opening(rt: &impl Print, case: &Case, options: &IpcWriteOptions) -> io::Result<()> {
+    match Recording::try_new(&case.nodes, &case.bytes) {
+        Ok(recording) => {
+            show_recording(rt, &recording)?;
+            show_calls(rt, &recording, options, &case.calls)
+        }
+        Err(fault) => show_fault_of(rt, "open", fault),
+    }
 }
 
 fn show_recording(rt: &impl Print, recording: &Recording) -> io::Result<()> {
@@ -105,43 +121,4 @@ fn line_of(node: &NodeRef, depth: u64) -> NodeLine
         node: node.node(),
         nulls: node.nulls(),
     }
-}
-
-// Prints the rows of columns that an order asks for, or why they are none.
-fn show_columns(rt: &impl Print, recording: &Recording, show: Show) -> io::Result<()> {
-    let Show {
-        first,
-        columns,
-        rows,
-    } = show;
-    match recording.columns(first as usize, columns, rows) {
-        Ok(found) => {
-            println!(rt; "show ok first {first} columns {columns} rows {rows}")?;
-            show_kinds(rt, &found)?;
-            show_rows(rt, &found)
-        }
-        Err(fault) => show_fault(rt, "show", fault),
-    }
-}
-
-// A line with the kind and the mark of each column.
-fn show_kinds(rt: &impl Print, columns: &Columns) -> io::Result<()> {
-    print!(rt; "columns")?;
-    for column in columns.nodes() {
-        let Node { kind, mark, .. } = column.node();
-        print!(rt; " | kind {kind} mark {mark}")?;
-    }
-    println!(rt; "")
-}
-
-// For each row a line with what the columns have in it.
-fn show_rows(rt: &impl Print, columns: &Columns) -> io::Result<()> {
-    for r in 0..columns.rows() {
-        print!(rt; "row {r}")?;
-        for row in columns.row(r) {
-            print!(rt; " | {}", RowText(row))?;
-        }
-        println!(rt; "")?;
-    }
-    Ok(())
 }

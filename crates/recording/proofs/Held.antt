@@ -32,7 +32,7 @@ use Rattle.recording.specs.View.{nodes_in, bytes_in}
 use Rattle.recording.specs.Windows.{window_in, window_at}
 use Rattle.recording.proofs.Below.{sides_are}
 use Rattle.recording.proofs.Reading.{rules_at}
-use Rattle.recording.proofs.Windows.{tree_of}
+use Rattle.recording.proofs.WindowFacts.{tree_of}
 
 -- the values of one row of trees side by side
 beside : (rec : Recording) (cs : List ℕ) (p e r : ℕ) → SideBySide (nodes_in rec) p cs e → e ≤ length (nodes_in rec)

@@ -11,3 +11,4 @@ pub mod RowPlaces
 pub mod Values
 pub mod ColumnPlaces
 pub mod Passing
+pub mod Contents

@@ -6,6 +6,7 @@ ghost use Rattle.recording.specs.View.{nodes_in};
 use crate::recording::Recording;
 use crate::rows::Parts;
 use crate::trees::Trees;
+use crate::windows::Windows;
 
 /// Nodes side by side with the same rows, as the columns of a batch are.
 #[derive(Clone, Copy, Debug, PartialEq, Eq)]
@@ -23,6 +24,7 @@ impl<'a> Columns<'a> {
     ghost use Rattle.recording.specs.Trees.{places_left};
     ghost use Rattle.recording.specs.RowPlaces.{parts_left, row_of_places};
     ghost use Rattle.recording.specs.ColumnPlaces.{column_places};
+    ghost use Rattle.recording.specs.Passing.{windows_left, rows_of_places};
 
     /// How many rows each has.
     pub fn rows(&self) -> u64
@@ -39,6 +41,17 @@ impl<'a> Columns<'a> {
             recording: self.recording,
             next: self.first,
             end: self.end,
+        }
+    }
+
+    /// All rows of each.
+    pub fn windows(&self) -> Windows<'a>
+        ensures { windows_left result ≡ rows_of_places 0 self.now.rows (column_places self.now) }
+    {
+        Windows {
+            nodes: self.nodes(),
+            first: 0,
+            rows: self.rows,
         }
     }
 

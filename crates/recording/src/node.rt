@@ -40,6 +40,13 @@ impl<'a> NodeRef<'a> {
         self.index
     }
 
+    /// The recording that it stands in.
+    pub fn recording(&self) -> Recording<'a>
+        ensures { result ≡ self.now.recording }
+    {
+        self.recording
+    }
+
     /// Its ten numbers, which keep every rule.
     pub fn node(&self) -> Node
         ensures value { result ≡ numbers_of self.now }
@@ -63,6 +70,14 @@ impl<'a> NodeRef<'a> {
         ensures children { Filled (table_of self.now) (self.now.index + 1) result }
     {
         self.index + self.node().span as usize
+    }
+
+    /// The node so many places after it, in its tree.
+    pub fn in_tree(&self, after: u64) -> NodeRef<'a>
+        requires { after < (numbers_of self.now).span }
+        ensures { IsNode self.now.recording (self.now.index + after) result }
+    {
+        self.recording.at(self.index + after as usize)
     }
 
     /// Its children.

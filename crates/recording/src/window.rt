@@ -1,9 +1,11 @@
 ghost use Rattle.std.specs.Prelude.{◌+◌, ◌≤◌};
 ghost use Rattle.recording.specs.NodeRefs.{numbers_of};
 
-use crate::node::NodeRef;
+use crate::node::{NodeRef, slot_place};
 use crate::rows::Rows;
-use layout::Kind;
+use crate::runs::Run;
+use crate::windows::Windows;
+use layout::{BitSlice, Kind};
 
 /// So many rows of a node, from a row on, inside the rows that the node has. Only a recording, a node,
 /// a row and a window make one.
@@ -16,19 +18,22 @@ pub struct Window<'a> {
 }
 
 impl<'a> Window<'a> {
-    ghost use Rattle.std.specs.Prelude.{◌≡◌};
+    ghost use Rattle.std.specs.Prelude.{◌≡◌, ◌<◌, ◌⊎◌, All};
     ghost use Rattle.layout.specs.Messages.{own_field};
-    ghost use Rattle.layout.specs.Windows.{shown_in};
-    ghost use Rattle.recording.specs.RowPlaces.{rows_left, rows_of_window};
-    ghost use Rattle.recording.specs.Passing.{IsChild, IsPassed, ArePassed, AreElements};
+    ghost use Rattle.layout.specs.Rules.{Is, HasOffsets};
+    ghost use Rattle.layout.specs.Shown.{below};
+    ghost use Rattle.layout.specs.Windows.{shown_in, shown_side, rows_at};
     ghost use Rattle.layout.specs.declared.number.Width.{Width};
-    ghost use Rattle.recording.specs.Windows.{window_in, HasElements};
+    ghost use Rattle.recording.specs.Contents.{IsRun, AreFlags, slots_of, AreStrings};
+    ghost use Rattle.recording.specs.Passing.{IsChild, IsPassed, ArePassed, AreContents, windows_left, ArePassedEach, IsSmaller, IsAfter};
+    ghost use Rattle.recording.specs.RowPlaces.{rows_left, rows_of_window};
+    ghost use Rattle.recording.specs.Windows.{window_in, HasStrings, HasElements};
 
-    /// Which node of the recording it is of.
-    pub fn node(&self) -> usize
-        ensures { result ≡ self.now.node.index }
+    /// The node that it is of.
+    pub fn node(&self) -> NodeRef<'a>
+        ensures { result ≡ self.now.node }
     {
-        self.node.index
+        self.node
     }
 
     /// The row of the node that is the window's first.
@@ -55,13 +60,113 @@ impl<'a> Window<'a> {
         }
     }
 
+    /// So many of its rows, from one of them on.
+    pub fn part(&self, from: u64, rows: u64) -> Window<'a>
+        requires { from + rows ≤ self.now.rows }
+        ensures { window_in result ≡ rows_at (window_in self.now) self.now.node.index (self.now.first + from) rows }
+    {
+        Window {
+            node: self.node,
+            first: self.first + from,
+            rows,
+        }
+    }
+
+    /// The rows from one on that are valid, or null, as that one is.
+    pub fn run_from(&self, from: u64) -> Run
+        requires { from < self.now.rows }
+        ensures { IsRun (window_in self.now) from result }
+    {
+        let left = self.rows - from;
+        if !self.node.kind().has_bitmap() {
+            return Run {
+                valid: false,
+                rows: left,
+            };
+        }
+        let Some(marks) = self.node.marks() else {
+            return Run {
+                valid: true,
+                rows: left,
+            };
+        };
+        let marks = marks.part(self.first + from, left);
+        let valid = marks.is_set(0);
+        let rows = marks.count_leading(valid);
+        Run { valid, rows }
+    }
+
+    /// The bits of a Boolean.
+    pub fn bits(&self) -> BitSlice<'a>
+        requires { Is (numbers_of self.now.node) Kind.Boolean }
+        ensures { AreFlags self.now result }
+    {
+        self.node.flags().part(self.first, self.rows)
+    }
+
+    /// The values of a Fixed or the keys of a Dictionary, one after another.
+    pub fn slots(&self) -> &'a [u8]
+        requires { Is (numbers_of self.now.node) Kind.Fixed
+            ⊎ Is (numbers_of self.now.node) Kind.Dictionary }
+        ensures { result.now ≡ slots_of self.now }
+    {
+        let node = self.node.node();
+        let start = slot_place(node, self.first, node.size);
+        let end = slot_place(node, self.first + self.rows, node.size);
+        &self.node.recording.bytes[start..end]
+    }
+
+    /// The byte strings of a Bytes, one after another.
+    pub fn strings(&self) -> &'a [u8]
+        requires { (w : Width) × HasStrings (numbers_of self.now.node) w }
+        ensures { AreStrings self.now result.now }
+    {
+        let (first, count) = self.contents();
+        let start = self.node.node().data + first;
+        &self.node.recording.bytes[start as usize..(start + count) as usize]
+    }
+
+    /// The elements of a List's rows: rows of its child.
+    pub fn elements(&self) -> Window<'a>
+        requires { (w : Width) × HasElements (numbers_of self.now.node) w }
+        ensures rows { IsPassed self.now (self.now.node.index + 1) result }
+        ensures smaller { IsSmaller self.now (window_in result) }
+    {
+        self.passed_to(self.node.child())
+    }
+
+    /// The values of a Dictionary: all rows of its child.
+    pub fn values(&self) -> Window<'a>
+        requires { Is (numbers_of self.now.node) Kind.Dictionary }
+        ensures rows { IsPassed self.now (self.now.node.index + 1) result }
+        ensures smaller { IsSmaller self.now (window_in result) }
+    {
+        self.passed_to(self.node.child())
+    }
+
+    /// What it passes to the children of its node, one after another.
+    pub fn children(&self) -> Windows<'a>
+        ensures windows { ArePassedEach self.now (windows_left result) }
+        ensures shown { shown_side (windows_left result) ≡ below (shown_in (window_in self.now)) }
+        ensures smaller { All (IsSmaller self.now) (windows_left result) }
+        ensures after { All (IsAfter self.now) (windows_left result) }
+    {
+        let (first, rows) = self.passed_rows();
+        Windows {
+            nodes: self.node.children(),
+            first,
+            rows,
+        }
+    }
+
     /// What it passes to a child of its node: a List the elements of its rows, a Struct the same rows, a Dictionary all
     /// rows of the child.
     pub fn passed_to(&self, child: NodeRef<'a>) -> Window<'a>
         requires { IsChild self.now.node child }
-        ensures { IsPassed self.now child.entry.index result }
+        ensures rows { IsPassed self.now child.entry.index result }
+        ensures smaller { IsSmaller self.now (window_in result) }
     {
-        let (first, rows) = self.passed_rows(&child);
+        let (first, rows) = self.passed_rows();
         Window {
             node: child,
             first,
@@ -69,24 +174,23 @@ impl<'a> Window<'a> {
         }
     }
 
-    // The first of the rows that it passes to a child of its node, and how many they are.
-    fn passed_rows(&self, child: &NodeRef<'a>) -> (u64, u64)
-        requires { IsChild self.now.node child.now }
-        ensures { ArePassed self.now child.now.index result.0 result.1 }
+    // The first of the rows that it passes to each child of its node, and how many they are.
+    fn passed_rows(&self) -> (u64, u64)
+        ensures { ArePassed self.now result.0 result.1 }
     {
         match self.node.kind() {
-            Kind::List32 | Kind::List64 => self.passed_elements(),
+            Kind::List32 | Kind::List64 => self.contents(),
             Kind::Struct => (self.first, self.rows),
-            Kind::Dictionary => (0, child.node().rows),
+            Kind::Dictionary => (0, self.node.child().node().rows),
             // The others have no child.
             Kind::Null | Kind::Boolean | Kind::Fixed | Kind::Bytes32 | Kind::Bytes64 => (0, 0),
         }
     }
 
-    // The elements of a List's rows: the first of them, and how many they are.
-    fn passed_elements(&self) -> (u64, u64)
-        requires { (w : Width) × HasElements (numbers_of self.now.node) w }
-        ensures { AreElements self.now result.0 result.1 }
+    // Where what the rows of a Bytes or a List have begins in the data or the child, and how much it is.
+    fn contents(&self) -> (u64, u64)
+        requires { (w : Width) × HasOffsets (numbers_of self.now.node) w }
+        ensures { AreContents self.now result.0 result.1 }
     {
         if self.rows == 0 {
             return (0, 0);

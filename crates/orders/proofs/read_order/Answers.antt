@@ -1,4 +1,4 @@
-use Rattle.std.proofs.Common.{◌≡◌, ◌+◌, Ok, Err, MatchResult, length, ap, subst, sym, ◌∙◌, inl, arith, rules}
+use Rattle.std.proofs.Common.{◌≡◌, ◌+◌, true, Ok, Err, MatchResult, length, ap, subst, sym, ◌∙◌, inl, arith, rules}
 use Rattle.std.specs.Iterator.Adapters.{enumerate_count, enumerate_source}
 use Rattle.std.proofs.lemmas.Result.{err_from_is_err_and}
 use Rattle.orders.specs.declared.text.Lines.{Lines}
@@ -18,7 +18,7 @@ pub loop-before-preserved : goal.loop-before-preserved
 loop-before-preserved g c =
     let steps = c.in-Some.ensures.steps in
     let line = c.in-Some.words.now in
-    let f = followed_ok line _ _ c.follow.result (sym c.in_ok-map_err.ensures.variant) c.follow.ensures in
+    let f = followed_ok line _ _ c.follow.result (sym {a = true} c.in_ok-map_err.ensures.variant) c.follow.ensures in
     let more = one_more c.args.text.now c.loop-before.invariant line _ steps.0 _ f in
     subst (λ n. Sofar (lines_in c.args.text.now) (lines_in (enumerate_source c.next.new.self).0.now) n (cases_in c.follow.new.cases)) (sym steps.2) more
 

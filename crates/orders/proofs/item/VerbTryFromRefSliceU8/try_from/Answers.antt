@@ -16,3 +16,13 @@ returns-in-bytesfile c = read_as c.args.word.now (codes "bytesfile") (omega arit
 
 pub returns-in-show : goal.returns-in-show
 returns-in-show c = read_as c.args.word.now (codes "show") (omega arith) (search rules)
+
+pub returns-in-handling : goal.returns-in-handling
+returns-in-handling c = read_as c.args.word.now (codes "handling") (omega arith) (search rules)
+
+-- the arm of `error_on_replacement`, which has too long a word to name it
+pub returns-in-101 : goal.returns-in-101
+returns-in-101 c = read_as c.args.word.now (codes "error_on_replacement") (omega arith) (search rules)
+
+pub returns-in-collect : goal.returns-in-collect
+returns-in-collect c = read_as c.args.word.now (codes "collect") (omega arith) (search rules)

@@ -1,6 +1,6 @@
 use Rattle.std.proofs.Common.{arith}
 use Rattle.recording.proofs.Reading.{has_offsets, row_next}
-use Rattle.recording.proofs.Windows.{rises_at}
+use Rattle.recording.proofs.WindowFacts.{rises_at}
 use Rattle.recording.proofs.offsets.Offsets.bounds.Goals as goal
 
 pub overflow_add-r : goal.overflow_add-r

@@ -1,4 +1,4 @@
-use Rattle.recording.proofs.Windows.{list_child}
+use Rattle.recording.proofs.WindowFacts.{list_child}
 use Rattle.recording.proofs.row.Row.elements.Goals as goal
 
 pub child-child-requires : goal.child-child-requires

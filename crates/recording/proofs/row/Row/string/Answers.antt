@@ -1,7 +1,7 @@
 use Rattle.std.proofs.Common.{◌+◌, ◌≤◌, length, arith}
 use Rattle.layout.specs.Numbers.{wide}
 use Rattle.recording.specs.NodeRefs.{run_of}
-use Rattle.recording.proofs.Windows.{string_ends, string_cut}
+use Rattle.recording.proofs.WindowFacts.{string_ends, string_cut}
 use Rattle.recording.proofs.row.Row.string.Goals as goal
 
 within : (c : goal.After-result-1) → c.node-data.result.«data» + c.bounds-first.result.1 ≤ length (run_of c.args.self.now.node)

@@ -1,4 +1,4 @@
-use Rattle.recording.proofs.Windows.{nulls_of_window}
+use Rattle.recording.proofs.WindowFacts.{nulls_of_window}
 use Rattle.recording.proofs.window.Window.null_count.Goals as goal
 
 pub returns : goal.returns

@@ -15,16 +15,17 @@ use Rattle.layout.specs.Rules.{Is, HasOffsets, reach, ChildrenFit}
 use Rattle.layout.specs.Trees.{Tree, Forest, trees_in, tree_at, tree_as}
 use Rattle.layout.specs.Messages.{null_count, own_field}
 use Rattle.layout.specs.Windows as layout
-use Rattle.layout.specs.Windows.{Inside, marks_in, marks_at, shown, shown_in, rows_at, passed_to}
+use Rattle.layout.specs.Windows.{Inside, marks_in, marks_at, shown, shown_in, rows_at, passed_to, ChildOf}
 use Rattle.layout.proofs.Facts.{one_kind, child_stands}
-use Rattle.laws.proofs.Passing.{passing}
+use Rattle.laws.proofs.Passing.{passing, only_child, no_child}
 use Rattle.laws.proofs.Says.{up_to}
 use Rattle.laws.proofs.Table.{tree_as_lem}
 use Rattle.recording.specs.declared.recording.Recording.{Recording}
 use Rattle.recording.specs.declared.node.NodeRef.{NodeRef}
 use Rattle.recording.specs.declared.window.Window.{Window}
-use Rattle.recording.specs.NodeRefs.{table_of, run_of, numbers_of, nulls_between, IsOffset}
-use Rattle.recording.specs.Passing.{IsChild, ArePassed, AreElements}
+use Rattle.recording.specs.NodeRefs.{table_of, run_of, numbers_of, nulls_between, IsNode, IsOffset}
+use Rattle.recording.specs.Passing.{ArePassed, AreContents}
+use Rattle.recording.specs.Places as places
 use Rattle.recording.specs.View.{nodes_in}
 use Rattle.recording.specs.Windows.{window_at, window_in, HasStrings, HasElements}
 use Rattle.recording.proofs.Reading.{rules_at}
@@ -109,7 +110,7 @@ module _ (n : NodeRef) where
       ap₂ (λ (p c : ℕ). cut p c (run_of n)) p c
 
   -- an offset width without data is a List's
-  listed : (k : Kind) (w : Width) → offset_width k ≡ Some w → has_data k ≡ false → (reach k (table_of n) n.index ≡ (node_at (table_of n) (n.index + 1)).rows) × ((c : ℕ) → ChildrenFit k c → c ≡ 1)
+  pub listed : (k : Kind) (w : Width) → offset_width k ≡ Some w → has_data k ≡ false → (reach k (table_of n) n.index ≡ (node_at (table_of n) (n.index + 1)).rows) × ((c : ℕ) → ChildrenFit k c → c ≡ 1)
   listed Null w e d = cc
   listed Boolean w e d = cc
   listed Fixed w e d = cc
@@ -137,13 +138,35 @@ module _ (n : NodeRef) where
 -- ---- what a window passes
 
 -- a node has one kind
-passed_by : (v : Window) (c x y : ℕ) (j : Kind) → Is (numbers_of v.node) j → (x ≡ (passed_to j (window_in v) c).first) × (y ≡ (passed_to j (window_in v) c).rows) → ArePassed v c x y
-passed_by v c x y j is t k at =
-    subst (λ (k : Kind). (x ≡ (passed_to k (window_in v) c).first) × (y ≡ (passed_to k (window_in v) c).rows)) (one_kind (numbers_of v.node) j k is at) t
+passed_by : (v : Window) (x y : ℕ) (j : Kind) → Is (numbers_of v.node) j
+    → ((c : ℕ) → ChildOf (table_of v.node) v.node.index c → (x ≡ (passed_to j (window_in v) c).first) × (y ≡ (passed_to j (window_in v) c).rows)) → ArePassed v x y
+passed_by v x y j is t k at c of =
+    subst (λ (k : Kind). (x ≡ (passed_to k (window_in v) c).first) × (y ≡ (passed_to k (window_in v) c).rows)) (one_kind (numbers_of v.node) j k is at) (t c of)
 
-pub elements_passed : (v : Window) (c x y : ℕ) (j : Kind) → Is (numbers_of v.node) j → (j ≡ List32) ⊎ (j ≡ List64) → AreElements v x y → ArePassed v c x y
-elements_passed v c x y j is (inl e) t = let at = subst (Is (numbers_of v.node)) e is in passed_by v c x y List32 at (t Four (List32, at, refl, refl))
-elements_passed v c x y j is (inr e) t = let at = subst (Is (numbers_of v.node)) e is in passed_by v c x y List64 at (t Eight (List64, at, refl, refl))
+pub elements_passed : (v : Window) (x y : ℕ) (j : Kind) → Is (numbers_of v.node) j → (j ≡ List32) ⊎ (j ≡ List64) → AreContents v x y → ArePassed v x y
+elements_passed v x y j is (inl e) t =
+    let at = subst (Is (numbers_of v.node)) e is in
+    let has : HasOffsets (numbers_of v.node) Four = (List32, at, refl) in
+    passed_by v x y List32 at (λ c of. (t.first Four has, t.count Four has))
+elements_passed v x y j is (inr e) t =
+    let at = subst (Is (numbers_of v.node)) e is in
+    let has : HasOffsets (numbers_of v.node) Eight = (List64, at, refl) in
+    passed_by v x y List64 at (λ c of. (t.first Eight has, t.count Eight has))
+
+pub rows_passed : (v : Window) → Is (numbers_of v.node) Struct → ArePassed v v.first v.rows
+rows_passed v is = passed_by v v.first v.rows Struct is (λ c of. (refl, refl))
+
+-- the only child is the next node
+pub values_passed : (v : Window) (child : NodeRef) (m : Node) → Is (numbers_of v.node) Dictionary → IsNode v.node.recording (v.node.index + 1) child → m ≡ numbers_of child → ArePassed v 0 m.rows
+values_passed v child m is (rec, at) same =
+    passed_by v 0 m.rows Dictionary is
+    (λ c of.
+    let next : c ≡ v.node.index + 1 = only_child (table_of v.node) v.node.index c Dictionary (rules_at v.node Nesting) is (λ m e. e) of in
+    (refl, ap (λ (m : Node). m.rows) same ∙ ap₂ (λ (r : Recording) (i : ℕ). (node_at (nodes_in r) i).rows) rec (at ∙ sym next)))
+
+-- a node of another kind has no child
+pub none_passed : (v : Window) (j : Kind) → Is (numbers_of v.node) j → ((m : ℕ) → ChildrenFit j m → m ≡ 0) → ArePassed v 0 0
+none_passed v j is none = passed_by v 0 0 j is (λ c of. absurd (no_child (table_of v.node) v.node.index c j (rules_at v.node Nesting) is none of))
 
 -- it is of the child, in the same recording
 passed_at : (k : Kind) (w : layout.Window) (c : ℕ) → passed_to k w c ≡ rows_at w c (passed_to k w c).first (passed_to k w c).rows
@@ -158,18 +181,18 @@ passed_at Struct w c = refl
 passed_at Dictionary w c = refl
 
 -- it lies inside the child's rows
-pub passed_inside : (v : Window) (child : NodeRef) (x y : ℕ) → IsChild v.node child → ArePassed v child.index x y → x + y ≤ (numbers_of child).rows
-passed_inside v child x y (rec, of) t =
+pub place_inside : (v : Window) (p : places.Place) (x y : ℕ) → places.IsChildPlace v.node p → ArePassed v x y → x + y ≤ places.rows_at p
+place_inside v p x y (rec, of) t =
     let r = rules_at v.node KindOrSize in
-    let p = t r.kind r.is in
     let w = window_in v in
-    let inside = subst Inside (passed_at r.kind w child.index) (passing.inside w r.kind child.index (inside_of v) r.is of) in
-    let same : (node_at (table_of v.node) child.index).rows ≡ (numbers_of child).rows = ap (λ (rec : Recording). (node_at (nodes_in rec) child.index).rows) (sym rec) in
-    omega (arith, inside.within, p.0, p.1, same)
+    let e = t r.kind r.is p.1 of in
+    let inside = subst Inside (passed_at r.kind w p.1) (passing.inside w r.kind p.1 (inside_of v) r.is of) in
+    let same : (node_at (table_of v.node) p.1).rows ≡ places.rows_at p = ap (λ (rec : Recording). (node_at (nodes_in rec) p.1).rows) (sym rec) in
+    omega (arith, inside.within, e.0, e.1, same)
 
-pub is_passed : (v : Window) (child : NodeRef) (x y : ℕ) → IsChild v.node child → ArePassed v child.index x y
-    → (k : Kind) → Is (numbers_of v.node) k → window_at child.recording child.index x y ≡ passed_to k (window_in v) child.index
-is_passed v child x y (rec, of) t k is =
-    let p = t k is in
+pub is_passed : (v : Window) (p : places.Place) (x y : ℕ) → places.IsChildPlace v.node p → ArePassed v x y
+    → (k : Kind) → Is (numbers_of v.node) k → window_at p.0 p.1 x y ≡ passed_to k (window_in v) p.1
+is_passed v p x y (rec, of) t k is =
+    let e = t k is p.1 of in
     let w = window_in v in
-    ap (λ (r : Recording). window_at r child.index x y) rec ∙ ap₂ (rows_at w child.index) p.0 p.1 ∙ sym (passed_at k w child.index)
+    ap (λ (r : Recording). window_at r p.1 x y) rec ∙ ap₂ (rows_at w p.1) e.0 e.1 ∙ sym (passed_at k w p.1)

@@ -1,0 +1,12 @@
+pub mod Comparing
+pub mod Meeting
+pub mod Runs
+pub mod Shapes
+pub mod Tests
+pub mod Updates
+pub mod ValidRows
+pub mod Walking
+pub mod Walks
+pub mod Keeping
+pub mod BatchWalk
+pub mod Laws

@@ -1,0 +1,10 @@
+pub mod Comparing
+pub mod Rows
+pub mod Windows
+pub mod Collecting
+pub mod Tracking
+pub mod Walking
+pub mod Walks
+pub mod Batches
+pub mod Sending
+pub mod Laws

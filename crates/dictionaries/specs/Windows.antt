@@ -1,0 +1,22 @@
+-- What comparing windows of recordings tells.
+use Rattle.std.specs.Prelude.{◌≡◌, Bool, true, ◌↔◌, map}
+use Rattle.layout.specs.declared.kind.Kind.TheVariants.{Struct}
+use Rattle.layout.specs.declared.number.Width.{Width}
+use Rattle.layout.specs.Numbers.{wide}
+use Rattle.layout.specs.Rules.{HasOffsets}
+use Rattle.layout.specs.Windows.{passed_to}
+use Rattle.recording.specs.declared.window.Window.{Window}
+use Rattle.recording.specs.NodeRefs.{numbers_of}
+use Rattle.recording.specs.Places.{Place, children_of}
+use Rattle.recording.specs.Windows.{window_in}
+use Rattle.dictionaries.specs.Rows.{SameRows, SameCounts, Pairwise}
+
+-- the parts of the rows of two Structs have the same values, child by child
+abbrev pub SameParts : Window → Window → Type 0
+SameParts one other =
+    Pairwise SameRows (map (λ (p : Place). passed_to Struct (window_in one) p.1) (children_of one.node)) (map (λ (p : Place). passed_to Struct (window_in other) p.1) (children_of other.node))
+
+-- each row has as many bytes or elements as the same row of the other
+abbrev pub TellsCounts : Bool → Window → Window → Type 0
+TellsCounts b one other =
+    (w : Width) → HasOffsets (numbers_of one.node) w → HasOffsets (numbers_of other.node) w → (b ≡ true) ↔ SameCounts (wide w) (window_in one) (window_in other)

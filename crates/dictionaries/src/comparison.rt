@@ -1,0 +1,176 @@
+//! A kept dictionary beside a new one, row by row.
+ghost use Rattle.std.specs.Prelude.{◌≡◌, true, [], ◌↔◌, ◌<◌, ◌==◌};
+ghost use Rattle.std.specs.Bool.{beq};
+ghost use Rattle.std.specs.List.{range_with_len, list_all};
+ghost use Rattle.layout.specs.declared.number.Width.{Width};
+ghost use Rattle.layout.specs.BitSlices.{bit_in};
+ghost use Rattle.layout.specs.Kinds.{kind_number};
+ghost use Rattle.layout.specs.Numbers.{wide};
+ghost use Rattle.layout.specs.Rows.{count_at};
+ghost use Rattle.layout.specs.Rules.{Is, HasOffsets};
+ghost use Rattle.layout.specs.Trees.{tree_at};
+ghost use Rattle.layout.specs.Windows.{shape_of, met_in, tree_in, shown_in};
+ghost use Rattle.recording.specs.NodeRefs.{table_of, run_of, numbers_of};
+ghost use Rattle.recording.specs.Windows.{window_in};
+ghost use Rattle.dictionaries.specs.Comparing.{comparison};
+ghost use Rattle.dictionaries.specs.Rows.{Alike, SameRows, Valid, uses_size, same_node, same_nodes};
+ghost use Rattle.dictionaries.specs.Windows.{SameParts, TellsCounts};
+
+use layout::{BitSlice, Kind};
+use recording::{NodeRef, Offsets, Window};
+
+/// How a new dictionary compares with the one that was kept.
+#[derive(Clone, Copy, Debug, PartialEq, Eq, Hash)]
+pub enum DictionaryComparison {
+    /// Neither of the others.
+    NotEqual,
+    /// The same rows.
+    Equal,
+    /// The new one is longer, and its first rows are the kept one's.
+    Delta,
+}
+
+/// Compares the kept window of a dictionary with the new one, in which no dictionary is met.
+pub(crate) fn compare_dictionaries(old: &Window, new: &Window) -> DictionaryComparison
+    requires { met_in (tree_in (window_in new.now)) ≡ [] }
+    ensures { result ≡ comparison (shown_in (window_in old.now)) (shown_in (window_in new.now)) }
+{
+    // A shorter one cannot be a delta.
+    if new.rows() < old.rows() || !same_shape(&new.node(), &old.node()) {
+        return DictionaryComparison::NotEqual;
+    }
+    if !equal_rows(&new.part(0, old.rows()), old) {
+        return DictionaryComparison::NotEqual;
+    }
+    if new.rows() == old.rows() {
+        DictionaryComparison::Equal
+    } else {
+        DictionaryComparison::Delta
+    }
+}
+
+// Whether kinds, marks, used sizes and nesting of two trees agree.
+fn same_shape(one: &NodeRef, other: &NodeRef) -> bool
+    ensures { (result ≡ true) ↔ (shape_of (tree_at (table_of one.now) one.now.index) ≡ shape_of (tree_at (table_of other.now) other.now.index)) }
+{
+    // A span counts the nodes of a tree, so where spans agree node by node, the nesting does.
+    one.node().span == other.node().span && same_nodes(one, other)
+}
+
+// The same, node by node.
+fn same_nodes(one: &NodeRef, other: &NodeRef) -> bool
+    requires { (numbers_of one.now).span ≡ (numbers_of other.now).span }
+    ensures { result ≡ same_nodes (table_of one.now) one.now.index (table_of other.now) other.now.index (numbers_of one.now).span }
+{
+    (0..one.node().span).all(|k| same_node(&one.in_tree(k), &other.in_tree(k)))
+}
+
+// Whether kind, mark, span and used size of two nodes agree.
+fn same_node(one: &NodeRef, other: &NodeRef) -> bool
+    ensures { result ≡ same_node (numbers_of one.now) (numbers_of other.now) }
+{
+    let (m, n) = (one.node(), other.node());
+    m.kind == n.kind
+        && m.mark == n.mark
+        && m.span == n.span
+        && (!uses_size(one.kind()) || m.size == n.size)
+}
+
+// Whether a kind uses its size.
+fn uses_size(kind: Kind) -> bool
+    ensures { result ≡ uses_size (kind_number kind) }
+{
+    matches!(kind, Kind::Fixed | Kind::Dictionary)
+}
+
+// Whether the rows of two windows have the same values.
+#[cycle(rows)]
+fn equal_rows(one: &Window, other: &Window) -> bool
+    requires { Alike (window_in one.now) (window_in other.now) }
+    ensures { (result ≡ true) ↔ SameRows (window_in one.now) (window_in other.now) }
+{
+    let mut from = 0;
+    while from < one.rows() {
+        let run = one.run_from(from);
+        if other.run_from(from) != run {
+            return false;
+        }
+        // What lies under nulls does not count.
+        if run.valid && !equal_valid_rows(&one.part(from, run.rows), &other.part(from, run.rows)) {
+            return false;
+        }
+        from += run.rows;
+    }
+    true
+}
+
+// The same where every row is valid.
+#[cycle(rows)]
+fn equal_valid_rows(one: &Window, other: &Window) -> bool
+    requires alike { Alike (window_in one.now) (window_in other.now) }
+    requires valid { Valid (window_in one.now) }
+    requires others { Valid (window_in other.now) }
+    ensures { (result ≡ true) ↔ SameRows (window_in one.now) (window_in other.now) }
+{
+    match one.node().kind() {
+        // No row of a Null is valid, and no Dictionary comes here.
+        Kind::Null | Kind::Dictionary => true,
+        Kind::Boolean => equal_bits(&one.bits(), &other.bits()),
+        Kind::Fixed => one.slots() == other.slots(),
+        Kind::Bytes32 | Kind::Bytes64 => {
+            equal_counts(one, other) && one.strings() == other.strings()
+        }
+        Kind::List32 | Kind::List64 => {
+            equal_counts(one, other) && equal_rows(&one.elements(), &other.elements())
+        }
+        Kind::Struct => equal_parts(one, other),
+    }
+}
+
+// Whether the children of two Structs have the same values in these rows.
+#[cycle(rows)]
+fn equal_parts(one: &Window, other: &Window) -> bool
+    requires alike { Alike (window_in one.now) (window_in other.now) }
+    requires is { Is (numbers_of one.now.node) Kind.Struct }
+    ensures { (result ≡ true) ↔ SameParts one.now other.now }
+{
+    let mut twins = other.children();
+    for part in one.children() {
+        let Some(twin) = twins.next() else {
+            return false;
+        };
+        if !equal_rows(&part, &twin) {
+            return false;
+        }
+    }
+    true
+}
+
+// Whether bits are the same, one by one.
+fn equal_bits(one: &BitSlice, other: &BitSlice) -> bool
+    requires { one.now.len ≡ other.now.len }
+    ensures { result ≡ list_all (λ i. beq (bit_in one.now i) (bit_in other.now i)) (range_with_len 0 one.now.len) }
+{
+    (0..one.len).all(|i| one.is_set(i) == other.is_set(i))
+}
+
+// Whether each row of two windows has as many bytes or elements as the same row of the other.
+fn equal_counts(one: &Window, other: &Window) -> bool
+    requires offsets { (w : Width) × HasOffsets (numbers_of one.now.node) w }
+    requires others { (w : Width) × HasOffsets (numbers_of other.now.node) w }
+    requires rows { one.now.rows ≡ other.now.rows }
+    ensures { TellsCounts result one.now other.now }
+{
+    let (mine, others) = (one.node().offsets(), other.node().offsets());
+    (0..one.rows()).all(|r| same_count(&mine, one.first() + r, &others, other.first() + r))
+}
+
+// Whether row r has as many bytes or elements as row s of the other node.
+fn same_count(one: &Offsets, r: u64, other: &Offsets, s: u64) -> bool
+    requires row { r < (numbers_of one.now.node).rows }
+    requires others { s < (numbers_of other.now.node).rows }
+    ensures { result ≡ (count_at (run_of one.now.node) (wide one.now.width) (numbers_of one.now.node) r
+        == count_at (run_of other.now.node) (wide other.now.width) (numbers_of other.now.node) s) }
+{
+    one.count(r) == other.count(s)
+}
