@@ -1,13 +1,16 @@
 -- What the code's comparisons tell of windows of recordings.
-use Rattle.std.proofs.Common.{◌≡◌, ℕ, ◌+◌, ◌<◌, ◌≤◌, Bool, true, false, not, ◌&&◌, ◌↔◌, eqb, nat_eq, ◌⊎◌, inl, inr, List, [], ◌∷◌, map, length, Some, add-zero, sym, refl, ap, ap₂, ◌∙◌, subst, arith}
-use Rattle.std.specs.List.{range_with_len, list_all}
+use Rattle.std.proofs.Common.{◌≡◌, ℕ, ◌+◌, ◌-◌, ◌*◌, add-mul, ◌<◌, ◌≤◌, Bool, true, false, not, ◌&&◌, ◌↔◌, eqb, nat_eq, ◌⊎◌, inl, inr, List, [], ◌∷◌, map, length, Some, Option, add-zero, sym, refl, ap, ap₂, ◌∙◌, subst, arith}
+use Rattle.std.specs.List.{range_with_len, list_all, fold}
 use Rattle.std.specs.Bool.{beq}
+use Rattle.std.specs.Option.{option_eq}
+use Rattle.layout.specs.contracts.number.WidthPartialEq.TheImpl.{eq-value}
 use Rattle.std.specs.Cmp.{booleans_Decides}
 use Rattle.std.specs.Cmp.Lexicographic.{same_text, other_text}
 use lib.Pointwise.{pointwise}
+use Rattle.std.proofs.lemmas.Nat.{mul-le}
 use Rattle.std.proofs.lemmas.Bool.{eqb-true, eq-eqb, and_parts, and_from, not-false, false≢true}
 use Rattle.layout.specs.declared.bit.BitSlice.{BitSlice}
-use Rattle.layout.specs.declared.fault.Refusal.TheVariants.{Nesting}
+use Rattle.layout.specs.declared.fault.Refusal.TheVariants.{Nesting, Offset}
 use Rattle.layout.specs.declared.kind.Kind.{Kind}
 use Rattle.layout.specs.declared.kind.Kind.TheVariants.{Null, Boolean, Fixed, Bytes32, Bytes64, List32, List64, Struct, Dictionary}
 use Rattle.layout.specs.declared.node.Node.{Node}
@@ -16,28 +19,31 @@ use Rattle.layout.specs.declared.number.Width.TheVariants.{Four, Eight}
 use Rattle.layout.specs.BitSlices.{bit_in}
 use Rattle.layout.specs.Kinds.{kind_number, offset_width, has_data}
 use Rattle.layout.specs.Nodes.{end_of}
-use Rattle.layout.specs.Numbers.{wide}
-use Rattle.layout.specs.Rows.{count_at}
+use Rattle.layout.specs.Lists.{cut}
+use Rattle.layout.specs.Numbers.{wide, unle}
+use Rattle.layout.specs.Rows.{slot_at, offset_at, count_at}
 use Rattle.layout.specs.Rules.{Is, HasOffsets, Nested}
 use Rattle.layout.specs.Shown.{Shape}
 use Rattle.layout.specs.Trees.{tree_at}
 use Rattle.layout.specs.Windows as layout
+use Rattle.layout.proofs.Facts.{one_kind}
+use Rattle.layout.proofs.Lists.{cut_cut}
+use Rattle.layout.proofs.Tests.{natural-number}
 use Rattle.layout.specs.Windows.{shape_of, value_in, top_in, shape_in, rows_at, first_rows, passed_to}
 use Rattle.recording.specs.declared.node.NodeRef.{NodeRef}
-use Rattle.recording.specs.declared.offsets.Offsets.{Offsets}
 use Rattle.recording.specs.declared.windows.Windows.{Windows}
 use Rattle.recording.specs.declared.runs.Run.{Run}
 use Rattle.recording.specs.declared.window.Window.{Window}
-use Rattle.recording.specs.Contents.{IsRun, AreFlags, slots_of, AreStrings}
+use Rattle.recording.specs.Contents.{IsRun, AreFlags, slots_of, offset_slots, AreOffsets, AreStrings}
 use Rattle.recording.specs.NodeRefs.{table_of, run_of, numbers_of}
 use Rattle.recording.specs.Passing.{IsPassed, ArePassedEach, windows_left}
 use Rattle.recording.specs.Places.{Place, children_of}
 use Rattle.recording.specs.Windows.{window_in}
 use Rattle.recording.proofs.WindowFacts.{inside_of}
-use Rattle.recording.proofs.Reading.{rules_at, one_width, has_offsets}
+use Rattle.recording.proofs.Reading.{rules_at, one_width}
 use Rattle.recording.proofs.Below.{sides_are}
 use Rattle.dictionaries.specs.Rows.{same_nodes, Alike, SameRows, Valid, slots_in, SameCounts, strings_in, elements_in, Pairwise}
-use Rattle.dictionaries.specs.Windows.{SameParts, TellsCounts}
+use Rattle.dictionaries.specs.Windows.{SameParts, TellsCounts, offset_in, count_in}
 use Rattle.dictionaries.proofs.Runs.{part_of, valid_rows, part_alike, same_runs, null_rows, part_rows, rows_part, rows_more}
 use Rattle.dictionaries.proofs.Shapes.{all_at, all_from, same_shapes, same_spans, one_shape_kind, one_shape_size, plain_kind, alike_elements, alike_parts}
 use Rattle.dictionaries.proofs.ValidRows.{null_kind, bits_same, slots_same, strings_same, elements_same, counts_total, parts_same}
@@ -62,26 +68,84 @@ spans_tell m n x y e f differ =
 
 -- ---- counts
 
--- how many row r of a window has, by the offsets of its node
-abbrev pub count_by : Offsets → Window → ℕ → ℕ
-count_by o w r = count_at (run_of o.node) (wide o.width) (numbers_of o.node) (w.first + r)
+and_none : (p : ℕ → Bool) (xs : List ℕ) → fold (λ ok r. ok && p r) false xs ≡ false
+and_none p [] = refl
+and_none p (x ∷ xs) = and_none p xs
 
-count_is : (o : Offsets) (w : Window) (x : Width) (r : ℕ) → o.node ≡ w.node → HasOffsets (numbers_of w.node) x
-    → count_by o w r ≡ count_at (run_of w.node) (wide x) (numbers_of w.node) (w.first + r)
-count_is o w x r e has =
-    let width = one_width (numbers_of w.node) o.width x (subst (λ (n : NodeRef). HasOffsets (numbers_of n) o.width) e (has_offsets o)) has in
-    ap₂ (λ (n : NodeRef) (x : Width). count_at (run_of n) (wide x) (numbers_of n) (w.first + r)) e width
+and_more : (p : ℕ → Bool) (b : Bool) (xs : List ℕ) → fold (λ ok r. ok && p r) true xs ≡ list_all p xs → fold (λ ok r. ok && p r) b xs ≡ (b && list_all p xs)
+and_more p true xs h = h
+and_more p false xs h = and_none p xs
 
--- row r has as many in both
-abbrev pub as_many : Offsets → Window → Offsets → Window → ℕ → Bool
-as_many o v u w r = eqb (count_by o v r) (count_by u w r)
+and_all : (p : ℕ → Bool) (xs : List ℕ) → fold (λ ok r. ok && p r) true xs ≡ list_all p xs
+and_all p [] = refl
+and_all p (x ∷ xs) = and_more p (p x) xs (and_all p xs)
 
-pub counts_told : (o : Offsets) (v : Window) (u : Offsets) (w : Window) (b : Bool) → o.node ≡ v.node → u.node ≡ w.node
-    → b ≡ list_all (as_many o v u w) (range_with_len 0 v.rows) → TellsCounts b v w
-counts_told o v u w b e f h x has other = (
-  λ t r l. sym (count_is o v x r e has) ∙ eqb-true _ _ (all_at (as_many o v u w) 0 v.rows r (sym h ∙ t) (omega arith) (omega arith)) ∙ count_is u w x r f other,
-  λ s. h ∙ all_from (as_many o v u w) 0 v.rows (λ r l m. eq-eqb _ _ (count_is o v x r e has ∙ s r (omega arith) ∙ sym (count_is u w x r f other))),
+-- offsets of a window say how many each of its rows has
+module _ (v : Window) (bs : List ℕ) (w : Width) (has : HasOffsets (numbers_of v.node) w) (is : bs ≡ offset_slots (wide w) v) where
+  abbrev m : Node
+  m = numbers_of v.node
+
+  abbrev x : ℕ
+  x = wide w
+
+  offset_is : (r : ℕ) → r ≤ v.rows → 0 < v.rows → offset_in bs x r ≡ offset_at (run_of v.node) x m (v.first + r)
+  offset_is r l some =
+      let rising = rules_at v.node Offset has.0 w has.1 has.2 in
+      let less : (r + 1) * x ≤ (v.rows + 1) * x = mul-le (r + 1) x (v.rows + 1) x (omega arith) (omega arith) in
+      let next : (r + 1) * x ≡ r * x + x = omega arith in
+      let place : (m.from + (v.first + r)) * x ≡ (m.from + v.first) * x + r * x = ap (λ (y : ℕ). y * x) (omega arith) ∙ add-mul (m.from + v.first) r x in
+      ap (λ (bs : List ℕ). offset_in bs x r) is
+      ∙ ap unle (cut_cut (r * x) x (m.slots + (m.from + v.first) * x) ((v.rows + 1) * x) (run_of v.node) (omega arith) ∙ ap (λ (q : ℕ). cut q x (run_of v.node)) (omega arith))
+      ∙ sym (natural-number (slot_at (run_of v.node) x m (v.first + r)) (rising.naturals (omega (arith, v.inside)) (v.first + r) (omega (arith, v.inside))))
+
+  count_is : (r : ℕ) → r < v.rows → count_in bs x r ≡ count_at (run_of v.node) x m (v.first + r)
+  count_is r l = ap₂ ◌-◌ (offset_is (r + 1) (omega arith) (omega arith) ∙ ap (offset_at (run_of v.node) x m) (omega arith)) (offset_is r (omega arith) (omega arith))
+
+-- row r has as many by both
+abbrev pub as_many : List ℕ → List ℕ → ℕ → ℕ → Bool
+as_many bs cs x r = eqb (count_in bs x r) (count_in cs x r)
+
+pub counts_told : (v u : Window) (bs cs : List ℕ) (w : Width) (b : Bool) → v.rows ≡ u.rows → HasOffsets (numbers_of v.node) w → AreOffsets v bs → AreOffsets u cs
+    → b ≡ fold (λ ok r. ok && as_many bs cs (wide w) r) true (range_with_len 0 v.rows) → TellsCounts b v u
+counts_told v u bs cs w b rows has mine others e y one other = (
+  λ t r l. sym (count_is v bs y one (mine y one) r l) ∙ eqb-true _ _ (all_at (as_many bs cs (wide y)) 0 v.rows r (sym all ∙ t) (omega arith) (omega arith)) ∙ count_is u cs y other (others y other) r (omega arith),
+  λ s. all ∙ all_from (as_many bs cs (wide y)) 0 v.rows (λ r a l. eq-eqb _ _ (count_is v bs y one (mine y one) r (omega arith) ∙ s r (omega arith) ∙ sym (count_is u cs y other (others y other) r (omega arith)))),
 )
+  where
+    all : b ≡ list_all (as_many bs cs (wide y)) (range_with_len 0 v.rows)
+    all = e ∙ ap (λ (w : Width). fold (λ ok r. ok && as_many bs cs (wide w) r) true (range_with_len 0 v.rows)) (one_width (numbers_of v.node) w y has one) ∙ and_all (as_many bs cs (wide y)) (range_with_len 0 v.rows)
+
+-- offsets have four bytes or eight
+abbrev pub is_four : Option Width → Bool
+is_four o = option_eq eq-value.it o (Some Four)
+
+pub four_wide : (n : Node) (k : Kind) (b : Bool) → Is n k → ((w : Width) × HasOffsets n w) → b ≡ is_four (offset_width k) → b ≡ true → HasOffsets n Four
+four_wide n k b is (w, (j, at, h)) e t = (k, is, by k (subst (λ (k : Kind). offset_width k ≡ Some w) (one_kind n j k at is) h) (sym e ∙ t))
+  where
+    by : (k : Kind) → offset_width k ≡ Some w → is_four (offset_width k) ≡ true → offset_width k ≡ Some Four
+    by Null h t = cc
+    by Boolean h t = cc
+    by Fixed h t = cc
+    by Bytes32 h t = refl
+    by Bytes64 h t = cc
+    by List32 h t = refl
+    by List64 h t = cc
+    by Struct h t = cc
+    by Dictionary h t = cc
+
+pub eight_wide : (n : Node) (k : Kind) (b : Bool) → Is n k → ((w : Width) × HasOffsets n w) → b ≡ is_four (offset_width k) → b ≡ false → HasOffsets n Eight
+eight_wide n k b is (w, (j, at, h)) e f = (k, is, by k (subst (λ (k : Kind). offset_width k ≡ Some w) (one_kind n j k at is) h) (sym e ∙ f))
+  where
+    by : (k : Kind) → offset_width k ≡ Some w → is_four (offset_width k) ≡ false → offset_width k ≡ Some Eight
+    by Null h f = cc
+    by Boolean h f = cc
+    by Fixed h f = cc
+    by Bytes32 h f = cc
+    by Bytes64 h f = refl
+    by List32 h f = cc
+    by List64 h f = refl
+    by Struct h f = cc
+    by Dictionary h f = cc
 
 -- ---- runs
 
@@ -164,6 +228,9 @@ pub record BothWide (d : Bool) (one other : Window) : Type 0 where
   pub has : has_data kind ≡ d
 
 module _ (one other : Window) (alike : Alike (window_in one) (window_in other)) where
+  pub others_offsets : (w : Width) → HasOffsets (numbers_of one.node) w → HasOffsets (numbers_of other.node) w
+  others_offsets w (k, is, h) = (k, others_kind one other alike k is, h)
+
   wide_by : (j : Kind) (x : Width) (d : Bool) → Is (numbers_of one.node) j → offset_width j ≡ Some x → has_data j ≡ d → BothWide d one other
   wide_by j x d is o h = record { kind = j; width = x; mine = is; others = others_kind one other alike j is; offsets = o; has = h }
 
@@ -176,9 +243,6 @@ module _ (one other : Window) (alike : Alike (window_in one) (window_in other)) 
   both_lists at is (inr e) = wide_by List64 Eight false (kind_read List64 at is e) refl refl
 
 module _ {d : Bool} {one other : Window} (b : BothWide d one other) where
-  pub others_offsets : (w : Width) × HasOffsets (numbers_of other.node) w
-  others_offsets = (b.width, (b.kind, b.others, b.offsets))
-
   pub others_have : (w : Width) × ((k : Kind) × Is (numbers_of other.node) k × (offset_width k ≡ Some w) × (has_data k ≡ d))
   others_have = (b.width, (b.kind, b.others, b.offsets, b.has))
 

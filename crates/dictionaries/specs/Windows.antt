@@ -1,8 +1,9 @@
 -- What comparing windows of recordings tells.
-use Rattle.std.specs.Prelude.{◌≡◌, Bool, true, ◌↔◌, map}
+use Rattle.std.specs.Prelude.{◌≡◌, ℕ, ◌+◌, ◌-◌, ◌*◌, Bool, true, ◌↔◌, List, map}
 use Rattle.layout.specs.declared.kind.Kind.TheVariants.{Struct}
 use Rattle.layout.specs.declared.number.Width.{Width}
-use Rattle.layout.specs.Numbers.{wide}
+use Rattle.layout.specs.Lists.{cut}
+use Rattle.layout.specs.Numbers.{wide, unle}
 use Rattle.layout.specs.Rules.{HasOffsets}
 use Rattle.layout.specs.Windows.{passed_to}
 use Rattle.recording.specs.declared.window.Window.{Window}
@@ -15,6 +16,13 @@ use Rattle.dictionaries.specs.Rows.{SameRows, SameCounts, Pairwise}
 abbrev pub SameParts : Window → Window → Type 0
 SameParts one other =
     Pairwise SameRows (map (λ (p : Place). passed_to Struct (window_in one) p.1) (children_of one.node)) (map (λ (p : Place). passed_to Struct (window_in other) p.1) (children_of other.node))
+
+-- what a list of offsets of x bytes says of row r: where it begins, and how many it has
+abbrev pub offset_in : List ℕ → ℕ → ℕ → ℕ
+offset_in bs x r = unle (cut (r * x) x bs)
+
+abbrev pub count_in : List ℕ → ℕ → ℕ → ℕ
+count_in bs x r = offset_in bs x (r + 1) - offset_in bs x r
 
 -- each row has as many bytes or elements as the same row of the other
 abbrev pub TellsCounts : Bool → Window → Window → Type 0

@@ -1,12 +1,10 @@
 //! A kept dictionary beside a new one, row by row.
-ghost use Rattle.std.specs.Prelude.{◌≡◌, true, [], ◌↔◌, ◌<◌, ◌==◌};
+ghost use Rattle.std.specs.Prelude.{◌≡◌, true, [], ◌↔◌, ◌<◌, ◌≤◌, ◌+◌, ◌*◌, ◌&&◌, length, ◌==◌};
 ghost use Rattle.std.specs.Bool.{beq};
-ghost use Rattle.std.specs.List.{range_with_len, list_all};
-ghost use Rattle.layout.specs.declared.number.Width.{Width};
+ghost use Rattle.std.specs.List.{range_with_len, list_all, fold};
 ghost use Rattle.layout.specs.BitSlices.{bit_in};
 ghost use Rattle.layout.specs.Kinds.{kind_number};
 ghost use Rattle.layout.specs.Numbers.{wide};
-ghost use Rattle.layout.specs.Rows.{count_at};
 ghost use Rattle.layout.specs.Rules.{Is, HasOffsets};
 ghost use Rattle.layout.specs.Trees.{tree_at};
 ghost use Rattle.layout.specs.Windows.{shape_of, met_in, tree_in, shown_in};
@@ -14,10 +12,10 @@ ghost use Rattle.recording.specs.NodeRefs.{table_of, run_of, numbers_of};
 ghost use Rattle.recording.specs.Windows.{window_in};
 ghost use Rattle.dictionaries.specs.Comparing.{comparison};
 ghost use Rattle.dictionaries.specs.Rows.{Alike, SameRows, Valid, uses_size, same_node, same_nodes};
-ghost use Rattle.dictionaries.specs.Windows.{SameParts, TellsCounts};
+ghost use Rattle.dictionaries.specs.Windows.{SameParts, TellsCounts, offset_in, count_in};
 
-use layout::{BitSlice, Kind};
-use recording::{NodeRef, Offsets, Window};
+use layout::{BitSlice, Kind, Width, read};
+use recording::{NodeRef, Window};
 
 /// How a new dictionary compares with the one that was kept.
 #[derive(Clone, Copy, Debug, PartialEq, Eq, Hash)]
@@ -157,20 +155,48 @@ fn equal_bits(one: &BitSlice, other: &BitSlice) -> bool
 // Whether each row of two windows has as many bytes or elements as the same row of the other.
 fn equal_counts(one: &Window, other: &Window) -> bool
     requires offsets { (w : Width) × HasOffsets (numbers_of one.now.node) w }
-    requires others { (w : Width) × HasOffsets (numbers_of other.now.node) w }
+    requires same { (w : Width) → HasOffsets (numbers_of one.now.node) w → HasOffsets (numbers_of other.now.node) w }
     requires rows { one.now.rows ≡ other.now.rows }
     ensures { TellsCounts result one.now other.now }
 {
-    let (mine, others) = (one.node().offsets(), other.node().offsets());
-    (0..one.rows()).all(|r| same_count(&mine, one.first() + r, &others, other.first() + r))
+    let (mine, others) = (one.offset_slots(), other.offset_slots());
+    // A width that is known when the loop is compiled makes vector code of it.
+    if one.node().kind().offset_width() == Some(Width::Four) {
+        same_counts(mine, others, one.rows(), Width::Four)
+    } else {
+        same_counts(mine, others, one.rows(), Width::Eight)
+    }
 }
 
-// Whether row r has as many bytes or elements as row s of the other node.
-fn same_count(one: &Offsets, r: u64, other: &Offsets, s: u64) -> bool
-    requires row { r < (numbers_of one.now.node).rows }
-    requires others { s < (numbers_of other.now.node).rows }
-    ensures { result ≡ (count_at (run_of one.now.node) (wide one.now.width) (numbers_of one.now.node) r
-        == count_at (run_of other.now.node) (wide other.now.width) (numbers_of other.now.node) s) }
+// Whether by two lists of offsets each row has as many bytes or elements.
+fn same_counts(mine: &[u8], others: &[u8], rows: u64, width: Width) -> bool
+    requires mine { (rows + 1) * wide width ≤ length mine.now }
+    requires others { (rows + 1) * wide width ≤ length others.now }
+    ensures { result ≡ fold (λ ok r. ok && (count_in mine.now (wide width) r == count_in others.now (wide width) r)) true (range_with_len 0 rows) }
 {
-    one.count(r) == other.count(s)
+    (0..rows).fold(true, |same, r| {
+        same & (count_in(mine, width, r) == count_in(others, width, r))
+    })
+}
+
+// How many bytes or elements row r has by these offsets.
+fn count_in(offsets: &[u8], width: Width, r: u64) -> u64
+    requires { (r + 2) * wide width ≤ length offsets.now }
+    ensures { result ≡ count_in offsets.now (wide width) r }
+{
+    let (first, end) = (
+        offset_in(offsets, width, r),
+        offset_in(offsets, width, r + 1),
+    );
+    // They rise, so this is their difference.
+    end.saturating_sub(first)
+}
+
+// The offset of row r.
+fn offset_in(offsets: &[u8], width: Width, r: u64) -> u64
+    requires { (r + 1) * wide width ≤ length offsets.now }
+    ensures { result ≡ offset_in offsets.now (wide width) r }
+{
+    let at = r * width.bytes() as u64;
+    read(&offsets[at as usize..], width)
 }

@@ -1,3 +1,4 @@
+pub mod Arrays
 pub mod Lists
 pub mod Numbers
 pub mod Bits
@@ -13,3 +14,4 @@ pub mod Places
 pub mod Scans
 pub mod Facts
 pub mod Words
+pub mod Leading

@@ -1,6 +1,6 @@
-ghost use Rattle.std.specs.Prelude.{◌≡◌, ℕ, ◌+◌, ◌-◌, ◌*◌, ◌/◌, ◌%◌, ◌^◌, ◌<◌, ◌≤◌, min, length, sum_by};
+ghost use Rattle.std.specs.Prelude.{◌≡◌, ℕ, ◌+◌, ◌-◌, ◌*◌, ◌/◌, ◌%◌, ◌^◌, ◌<◌, ◌≤◌, min, length, not, sum_by};
 ghost use Rattle.layout.specs.Lists.{rows};
-ghost use Rattle.layout.specs.Bits.{bit_at, bytes_for, zeros, zeros_in};
+ghost use Rattle.layout.specs.Bits.{bit_of, bit_at, bytes_for, zeros, zeros_in};
 
 /// Whether bit i of the bytes is 1.
 pub fn read_bit(bytes: &[u8], i: u64) -> bool
@@ -46,7 +46,7 @@ pub struct BitSlice<'a> {
 }
 
 impl<'a> BitSlice<'a> {
-    ghost use Rattle.std.specs.Prelude.{not, count_by, take_while};
+    ghost use Rattle.std.specs.Prelude.{count_by, take_while};
     ghost use Rattle.std.specs.Bool.{beq};
     ghost use Rattle.std.specs.List.{range_with_len};
     ghost use Rattle.layout.specs.BitSlices.{bit_in, bits_in, IsPart};
@@ -75,7 +75,29 @@ impl<'a> BitSlice<'a> {
     pub fn count_leading(&self, bit: bool) -> u64
         ensures { result ≡ length (take_while (λ i. beq (bit_in self.now i) bit) (range_with_len 0 self.now.len)) }
     {
-        (0..self.len).take_while(|i| self.is_set(*i) == bit).count() as u64
+        let mut count = 0;
+        while count < self.len && self.is_set(count) == bit {
+            count += self.count_leading_in_byte(count, bit);
+        }
+        count
+    }
+
+    // The same from bit `from` of them on, which is so, in its byte.
+    fn count_leading_in_byte(&self, from: u64, bit: bool) -> u64
+        requires within { from < self.now.len }
+        requires first { bit_in self.now from ≡ bit }
+        ensures some { 0 < result }
+        ensures most { from + result ≤ self.now.len }
+        ensures alike { (i : ℕ) → i < result → bit_in self.now (from + i) ≡ bit }
+        ensures byte { result ≤ 8 - (self.now.first + from) % 8 }
+        ensures ends { from + result < self.now.len → result < 8 - (self.now.first + from) % 8
+            → bit_in self.now (from + result) ≡ not bit }
+    {
+        let place = self.first + from;
+        let rest = self.bytes[(place / 8) as usize] >> (place % 8) as u32;
+        u64::from(count_trailing(rest, bit))
+            .min(8 - place % 8)
+            .min(self.len - from)
     }
 
     /// How many of them are 0.
@@ -98,6 +120,19 @@ impl<'a> BitSlice<'a> {
         ensures most { result ≤ self.now.len }
     {
         (0..self.len).filter(|i| !self.is_set(*i)).count() as u64
+    }
+}
+
+// How many bits of a byte, from the lowest on, are as `bit` says.
+fn count_trailing(byte: u8, bit: bool) -> u32
+    ensures alike { (i : ℕ) → i < result → bit_of byte i ≡ bit }
+    ensures most { result ≤ 8 }
+    ensures ends { result < 8 → bit_of byte result ≡ not bit }
+{
+    if bit {
+        byte.trailing_ones()
+    } else {
+        byte.trailing_zeros()
     }
 }
 

@@ -5,6 +5,7 @@ ghost use Rattle.layout.specs.Numbers.{wide, width_of, le, unle, signed, SignedF
 ghost use Rattle.layout.specs.Spelling.{SpellingLaws, unsigned_laws, signed_laws};
 
 use crate::fault::Refusal;
+use std::array;
 
 /// How many bytes a number has.
 #[derive(Clone, Copy, Debug, PartialEq, Eq, Hash)]
@@ -124,7 +125,8 @@ fn front<const N: usize>(bytes: &[u8]) -> [u8; N]
     requires { N ≤ length bytes.now }
     ensures { result ≡ take N bytes.now }
 {
-    *bytes.first_chunk().unwrap()
+    // By index, since `first_chunk` would test at each read that the bytes are there.
+    array::from_fn(|k| bytes[k])
 }
 
 // The unsigned number at the front.

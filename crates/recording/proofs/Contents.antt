@@ -19,16 +19,18 @@ use Rattle.layout.specs.Numbers.{wide}
 use Rattle.layout.specs.Rows.{mark_in, mark_at}
 use Rattle.layout.specs.Rules.{Is, HasOffsets, ChildrenFit, Placed}
 use Rattle.layout.specs.Windows.{passed_count}
-use Rattle.layout.proofs.Facts.{fixed_lie, keys_lie}
+use Rattle.layout.proofs.Facts.{fixed_lie, keys_lie, offsets_lie}
 use Rattle.layout.proofs.Kids.{one_child}
+use Rattle.layout.proofs.Lists.{length_cut}
 use Rattle.recording.specs.declared.node.NodeRef.{NodeRef}
+use Rattle.recording.specs.declared.offsets.Offsets.{Offsets}
 use Rattle.recording.specs.declared.window.Window.{Window}
-use Rattle.recording.specs.Contents.{valid_at, IsRun, slots_of, AreStrings}
+use Rattle.recording.specs.Contents.{valid_at, IsRun, slots_of, AreOffsets, AreStrings}
 use Rattle.recording.specs.NodeRefs.{table_of, run_of, numbers_of, IsNode}
 use Rattle.recording.specs.Passing.{IsChild, AreContents}
 use Rattle.recording.specs.RowBits.{AreMarks}
 use Rattle.recording.specs.Windows.{window_in, HasStrings}
-use Rattle.recording.proofs.Reading.{rules_at}
+use Rattle.recording.proofs.Reading.{rules_at, one_width, few, placed, has_offsets}
 use Rattle.recording.proofs.WindowFacts.{string_ends}
 
 -- ---- the numbers of a range that pass, from the first on
@@ -177,6 +179,46 @@ slots_cut w m start end same s e =
     let more : (m.from + (w.first + w.rows)) * m.size ≡ (m.from + w.first) * m.size + w.rows * m.size = ap (λ (x : ℕ). x * m.size) (omega arith) ∙ add-mul (m.from + w.first) w.rows m.size in
     let len : end - start ≡ w.rows * m.size = omega arith in
     (omega arith, ap₂ (λ (p c : ℕ). cut p c (run_of w.node)) s len ∙ ap (λ (m : Node). cut (m.slots + (m.from + w.first) * m.size) (w.rows * m.size) (run_of w.node)) same)
+
+-- ---- offsets
+
+-- where those of a window begin, of x bytes each, and that they end within the bytes
+pub record OffsetsAt (v : Window) (m : Node) (x : ℕ) : Type 0 where
+  pub row : m.from + v.first ≤ 2147483647
+  pub place : m.slots + (m.from + v.first) * x ≤ 4294967295
+  pub few : v.rows ≤ 2147483647
+  pub within : m.slots + (m.from + v.first) * x + (v.rows + 1) * x ≤ length (run_of v.node)
+  pub small : length (run_of v.node) ≤ 4294967295
+
+module _ (v : Window) (m : Node) (o : Offsets) (x : ℕ) (same : m ≡ numbers_of v.node) (node : o.node ≡ v.node) (wide_x : x ≡ wide o.width) where
+  has : HasOffsets (numbers_of v.node) o.width
+  has = subst (λ (n : NodeRef). HasOffsets (numbers_of n) o.width) node (has_offsets o)
+
+  offsets_by : m.slots + (m.from + m.rows + 1) * x ≤ length (run_of v.node) → OffsetsAt v m x
+  offsets_by lie =
+      let row = few v.node m same v.first v.rows v.inside in
+      let rows : m.rows ≡ (numbers_of v.node).rows = ap (λ (m : Node). m.rows) same in
+      let more : (m.from + v.first + (v.rows + 1)) * x ≡ (m.from + v.first) * x + (v.rows + 1) * x = add-mul (m.from + v.first) (v.rows + 1) x in
+      let less : (m.from + v.first + (v.rows + 1)) * x ≤ (m.from + m.rows + 1) * x = mul-le (m.from + v.first + (v.rows + 1)) x (m.from + m.rows + 1) x (omega (arith, v.inside)) (omega arith) in
+      let within : m.slots + (m.from + v.first) * x + (v.rows + 1) * x ≤ length (run_of v.node) = omega arith in
+      record { row = omega (arith, row); place = omega (arith, v.node.recording.opened.1); few = omega (arith, row); within = within; small = v.node.recording.opened.1 }
+
+  pub offsets_at : OffsetsAt v m x
+  offsets_at = offsets_by (subst (λ (x : ℕ). m.slots + (m.from + m.rows + 1) * x ≤ length (run_of v.node)) (sym wide_x)
+      (offsets_lie (run_of v.node) m (placed v.node m same) has.0 o.width (subst (λ (m : Node). Is m has.0) (sym same) has.1) has.2))
+
+  pub offsets_cut : (start end : ℕ) → start ≡ m.slots + (m.from + v.first) * x → end ≡ start + (v.rows + 1) * x → AreOffsets v (cut start (end - start) (run_of v.node))
+  offsets_cut start end s e w other =
+      let len : end - start ≡ (v.rows + 1) * x = omega arith in
+      ap₂ (λ (p c : ℕ). cut p c (run_of v.node)) s len
+      ∙ ap₂ (λ (m : Node) (x : ℕ). cut (m.slots + (m.from + v.first) * x) ((v.rows + 1) * x) (run_of v.node)) same (wide_x ∙ ap wide (one_width (numbers_of v.node) o.width w has other))
+
+  pub offsets_long : (start end : ℕ) → start ≡ m.slots + (m.from + v.first) * x → end ≡ start + (v.rows + 1) * x
+      → (w : Width) → HasOffsets (numbers_of v.node) w → length (cut start (end - start) (run_of v.node)) ≡ (v.rows + 1) * wide w
+  offsets_long start end s e w other =
+      length_cut start (end - start) (run_of v.node) (omega (arith, offsets_at.within))
+      ∙ omega arith
+      ∙ ap (λ (x : ℕ). (v.rows + 1) * x) (wide_x ∙ ap wide (one_width (numbers_of v.node) o.width w has other))
 
 -- ---- byte strings
 

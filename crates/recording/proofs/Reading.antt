@@ -43,7 +43,7 @@ module _ (n : NodeRef) (m : Node) (same : m ≡ numbers_of n) where
   tabled : Tabled m
   tabled = subst Tabled (sym same) (rules_at n KindOrSize)
 
-  placed : Placed (run_of n) m
+  pub placed : Placed (run_of n) m
   placed = subst (Placed (run_of n)) (sym same) (rules_at n Place)
 
   small : length (run_of n) ≤ 4294967295

@@ -8,6 +8,7 @@ use Rattle.layout.specs.Kinds.{kind_number}
 use Rattle.layout.specs.Lists.{cut}
 use Rattle.layout.specs.Numbers.{wide}
 use Rattle.layout.specs.Rows.{mark_at, flag_at}
+use Rattle.layout.specs.Rules.{HasOffsets}
 use Rattle.layout.specs.Windows as layout
 use Rattle.layout.specs.Windows.{passed_first, passed_count, top_in}
 use Rattle.recording.specs.declared.runs.Run.{Run}
@@ -34,6 +35,13 @@ pub record AreFlags (w : Window) (bits : BitSlice) : Type 0 where
 -- the values of a Fixed, or the keys of a Dictionary
 abbrev pub slots_of : Window → List ℕ
 slots_of w = cut ((numbers_of w.node).slots + ((numbers_of w.node).from + w.first) * (numbers_of w.node).size) (w.rows * (numbers_of w.node).size) (run_of w.node)
+
+-- the offsets of a Bytes or a List, one more than there are rows
+abbrev pub offset_slots : ℕ → Window → List ℕ
+offset_slots x w = cut ((numbers_of w.node).slots + ((numbers_of w.node).from + w.first) * x) ((w.rows + 1) * x) (run_of w.node)
+
+abbrev pub AreOffsets : Window → List ℕ → Type 0
+AreOffsets v bs = (w : Width) → HasOffsets (numbers_of v.node) w → bs ≡ offset_slots (wide w) v
 
 -- the byte strings of a Bytes
 abbrev pub AreStrings : Window → List ℕ → Type 0

@@ -6,7 +6,7 @@ use Rattle.layout.specs.declared.number.Width.{Width}
 use Rattle.layout.specs.Kinds.{has_bitmap, offset_width}
 use Rattle.layout.specs.Nodes.{bitmap_of}
 use Rattle.layout.specs.Numbers.{wide}
-use Rattle.layout.specs.Rows.{offset_at, count_at, nulls_in}
+use Rattle.layout.specs.Rows.{offset_at, nulls_in}
 use Rattle.layout.specs.Rules.{Is, HasOffsets, reach}
 use Rattle.recording.specs.declared.recording.Recording.{Recording}
 use Rattle.recording.specs.declared.node.NodeRef.{NodeRef}
@@ -39,7 +39,3 @@ AreWide n w = (k : Kind) → Is n k → offset_width k ≡ Some w
 pub record IsOffset (n : NodeRef) (r x : ℕ) : Type 0 where
   pub value : (w : Width) → HasOffsets (numbers_of n) w → x ≡ offset_at (run_of n) (wide w) (numbers_of n) r
   pub bound : (k : Kind) → Is (numbers_of n) k → x ≤ reach k (table_of n) n.index
-
--- x is how many bytes or elements row r has
-abbrev pub IsCount : NodeRef → ℕ → ℕ → Type 0
-IsCount n r x = (w : Width) → HasOffsets (numbers_of n) w → x ≡ count_at (run_of n) (wide w) (numbers_of n) r

@@ -14,7 +14,7 @@ pub struct Offsets<'a> {
 
 impl<'a> Offsets<'a> {
     ghost use Rattle.std.specs.Prelude.{◌+◌, ◌<◌, ◌≤◌};
-    ghost use Rattle.recording.specs.NodeRefs.{IsOffset, IsCount};
+    ghost use Rattle.recording.specs.NodeRefs.{IsOffset};
 
     /// That of row r; that of row `rows` is where the last row ends.
     pub fn at(&self, r: u64) -> u64
@@ -34,13 +34,5 @@ impl<'a> Offsets<'a> {
         ensures rises { result.0 ≤ result.1 }
     {
         (self.at(r), self.at(r + 1))
-    }
-    /// How many bytes or elements row r has.
-    pub fn count(&self, r: u64) -> u64
-        requires { r < (numbers_of self.now.node).rows }
-        ensures { IsCount self.now.node r result }
-    {
-        let (first, end) = self.bounds(r);
-        end - first
     }
 }

@@ -18,13 +18,14 @@ pub struct Window<'a> {
 }
 
 impl<'a> Window<'a> {
-    ghost use Rattle.std.specs.Prelude.{◌≡◌, ◌<◌, ◌⊎◌, All};
+    ghost use Rattle.std.specs.Prelude.{◌≡◌, ◌*◌, ◌<◌, ◌⊎◌, All, length};
+    ghost use Rattle.layout.specs.Numbers.{wide};
     ghost use Rattle.layout.specs.Messages.{own_field};
     ghost use Rattle.layout.specs.Rules.{Is, HasOffsets};
     ghost use Rattle.layout.specs.Shown.{below};
     ghost use Rattle.layout.specs.Windows.{shown_in, shown_side, rows_at};
     ghost use Rattle.layout.specs.declared.number.Width.{Width};
-    ghost use Rattle.recording.specs.Contents.{IsRun, AreFlags, slots_of, AreStrings};
+    ghost use Rattle.recording.specs.Contents.{IsRun, AreFlags, slots_of, AreOffsets, AreStrings};
     ghost use Rattle.recording.specs.Passing.{IsChild, IsPassed, ArePassed, AreContents, windows_left, ArePassedEach, IsSmaller, IsAfter};
     ghost use Rattle.recording.specs.RowPlaces.{rows_left, rows_of_window};
     ghost use Rattle.recording.specs.Windows.{window_in, HasStrings, HasElements};
@@ -113,6 +114,19 @@ impl<'a> Window<'a> {
         let node = self.node.node();
         let start = slot_place(node, self.first, node.size);
         let end = slot_place(node, self.first + self.rows, node.size);
+        &self.node.recording.bytes[start..end]
+    }
+
+    /// The offsets of a Bytes or a List as they stand, one for each row and one more.
+    pub fn offset_slots(&self) -> &'a [u8]
+        requires { (w : Width) × HasOffsets (numbers_of self.now.node) w }
+        ensures value { AreOffsets self.now result.now }
+        ensures long { (w : Width) → HasOffsets (numbers_of self.now.node) w
+            → length result.now ≡ (self.now.rows + 1) * wide w }
+    {
+        let width = self.node.offsets().width.bytes() as u64;
+        let start = slot_place(self.node.node(), self.first, width);
+        let end = start + ((self.rows + 1) * width) as usize;
         &self.node.recording.bytes[start..end]
     }
 

@@ -77,9 +77,8 @@ equal_valid_rows-returns-in-Fixed t c =
 
 -- byte strings
 
-pub equal_valid_rows-equal_counts-requires-clause-others : goal.equal_valid_rows-equal_counts-requires-clause-others
-equal_valid_rows-equal_counts-requires-clause-others t c =
-    others_offsets (both_strings c.args.one.now c.args.other.now c.requires.alike c.node.ensures c.kind.ensures c.in-Bytes32.is)
+pub equal_valid_rows-equal_counts-requires-clause-same : goal.equal_valid_rows-equal_counts-requires-clause-same
+equal_valid_rows-equal_counts-requires-clause-same t c = others_offsets c.args.one.now c.args.other.now c.requires.alike
 
 pub equal_valid_rows-strings-requires-then-equal_counts : goal.equal_valid_rows-strings-requires-then-equal_counts
 equal_valid_rows-strings-requires-then-equal_counts t c =
@@ -98,9 +97,8 @@ equal_valid_rows-returns-else-equal_counts t c =
 
 -- lists
 
-pub equal_valid_rows-equal_counts-requires-in-List32-clause-others : goal.equal_valid_rows-equal_counts-requires-in-List32-clause-others
-equal_valid_rows-equal_counts-requires-in-List32-clause-others t c =
-    others_offsets (both_lists c.args.one.now c.args.other.now c.requires.alike c.node.ensures c.kind.ensures c.in-List32.is)
+pub equal_valid_rows-equal_counts-requires-in-List32-clause-same : goal.equal_valid_rows-equal_counts-requires-in-List32-clause-same
+equal_valid_rows-equal_counts-requires-in-List32-clause-same t c = others_offsets c.args.one.now c.args.other.now c.requires.alike
 
 pub equal_valid_rows-elements-requires-then-equal_counts-2 : goal.equal_valid_rows-elements-requires-then-equal_counts-2
 equal_valid_rows-elements-requires-then-equal_counts-2 t c =

@@ -1,23 +1,41 @@
-use Rattle.std.proofs.Common.{rules, arith, refl, ◌∙◌}
-use Rattle.std.proofs.lemmas.Iterator.{serves_from_Range, YieldsList-from_range}
-use Rattle.std.proofs.lemmas.Iterator.Search.{all_from_yields_List}
-use borrow.Author.Tests.{tests}
-use Rattle.layout.specs.declared.fault.Refusal.TheVariants.{KindOrSize}
-use Rattle.recording.proofs.Reading.{rules_at}
-use Rattle.dictionaries.proofs.Comparing.{as_many, counts_told}
+use Rattle.std.proofs.Common.{ℕ, true, ◌&&◌, ap, ◌∙◌, subst, arith}
+use Rattle.std.specs.List.{fold, range_with_len}
+use Rattle.layout.specs.declared.number.Width.TheVariants.{Four, Eight}
+use Rattle.layout.specs.Rules.{HasOffsets, Is}
+use Rattle.recording.specs.declared.node.NodeRef.{NodeRef}
+use Rattle.recording.specs.NodeRefs.{numbers_of}
+use Rattle.dictionaries.proofs.Comparing.{is_four, as_many, four_wide, eight_wide, counts_told}
 use Rattle.dictionaries.proofs.comparison.equal_counts.Goals as goal
+use Rattle.dictionaries.proofs.comparison.equal_counts.Goals.{Then-eq, Else-eq}
 
-pub all-requires-clause-callable : goal.all-requires-clause-callable
-all-requires-clause-callable c =
-    let mine = (rules_at c.args.one.now.node KindOrSize).rows in
-    let others = (rules_at c.args.other.now.node KindOrSize).rows in
-    serves_from_Range (λ x q k. search (rules, tests)) (λ x l m. search (rules, tests, arith))
+four : (c : Then-eq) → HasOffsets (numbers_of c.args.one.now.node) Four
+four c =
+    four_wide (numbers_of c.args.one.now.node) c.kind.result c.eq.result (subst (λ (n : NodeRef). Is (numbers_of n) c.kind.result) c.node.ensures c.kind.ensures) c.requires.offsets
+    (c.eq.ensures ∙ ap is_four c.offset_width.ensures) c.if-eq.true
 
-pub returns : goal.returns
-returns c =
-    let one = c.args.one.now in
-    let other = c.args.other.now in
-    let mine = c.offsets-mine.result in
-    let others = c.offsets-others.result in
-    counts_told mine one others other c.all.result (c.offsets-mine.ensures ∙ c.node.ensures) (c.offsets-others.ensures ∙ c.node-2.ensures)
-    (all_from_yields_List (as_many mine one others other) _ _ _ c.all.ensures.ran (YieldsList-from_range 0 _ one.rows refl (omega arith)) (λ x b q k. search (rules, tests)))
+eight : (c : Else-eq) → HasOffsets (numbers_of c.args.one.now.node) Eight
+eight c =
+    eight_wide (numbers_of c.args.one.now.node) c.kind.result c.eq.result (subst (λ (n : NodeRef). Is (numbers_of n) c.kind.result) c.node.ensures c.kind.ensures) c.requires.offsets
+    (c.eq.ensures ∙ ap is_four c.offset_width.ensures) c.if-eq.false
+
+pub same_counts-requires-clause-mine : goal.same_counts-requires-clause-mine
+same_counts-requires-clause-mine c = omega (arith, c.offset_slots-mine.ensures.long Four (four c.before), c.rows.ensures)
+
+pub same_counts-requires-clause-others : goal.same_counts-requires-clause-others
+same_counts-requires-clause-others c = omega (arith, c.offset_slots-others.ensures.long Four (c.requires.same Four (four c.before)), c.rows.ensures, c.requires.rows)
+
+pub same_counts-requires-else-eq-clause-mine : goal.same_counts-requires-else-eq-clause-mine
+same_counts-requires-else-eq-clause-mine c = omega (arith, c.offset_slots-mine.ensures.long Eight (eight c.before), c.rows-else-eq.ensures)
+
+pub same_counts-requires-else-eq-clause-others : goal.same_counts-requires-else-eq-clause-others
+same_counts-requires-else-eq-clause-others c = omega (arith, c.offset_slots-others.ensures.long Eight (c.requires.same Eight (eight c.before)), c.rows-else-eq.ensures, c.requires.rows)
+
+pub returns-then-eq : goal.returns-then-eq
+returns-then-eq c =
+    counts_told c.args.one.now c.args.other.now c.offset_slots-mine.result.now c.offset_slots-others.result.now Four c.same_counts.result c.requires.rows (four c.before.before) c.offset_slots-mine.ensures.value c.offset_slots-others.ensures.value
+    (c.same_counts.ensures ∙ ap (λ (n : ℕ). fold (λ ok r. ok && as_many c.offset_slots-mine.result.now c.offset_slots-others.result.now 4 r) true (range_with_len 0 n)) c.rows.ensures)
+
+pub returns-else-eq : goal.returns-else-eq
+returns-else-eq c =
+    counts_told c.args.one.now c.args.other.now c.offset_slots-mine.result.now c.offset_slots-others.result.now Eight c.same_counts-else-eq.result c.requires.rows (eight c.before.before) c.offset_slots-mine.ensures.value c.offset_slots-others.ensures.value
+    (c.same_counts-else-eq.ensures ∙ ap (λ (n : ℕ). fold (λ ok r. ok && as_many c.offset_slots-mine.result.now c.offset_slots-others.result.now 8 r) true (range_with_len 0 n)) c.rows-else-eq.ensures)
