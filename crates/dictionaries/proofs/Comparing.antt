@@ -1,14 +1,12 @@
 -- What the code's comparisons tell of windows of recordings.
-use Rattle.std.proofs.Common.{◌≡◌, ℕ, ◌+◌, ◌-◌, ◌*◌, add-mul, ◌<◌, ◌≤◌, Bool, true, false, not, ◌&&◌, ◌↔◌, eqb, nat_eq, ◌⊎◌, inl, inr, List, [], ◌∷◌, map, length, Some, Option, add-zero, sym, refl, ap, ap₂, ◌∙◌, subst, arith}
+use Rattle.std.proofs.Common.{◌≡◌, ℕ, ◌+◌, ◌-◌, ◌*◌, add-mul, ◌<◌, ◌≤◌, Bool, true, false, ◌&&◌, ◌↔◌, eqb, nat_eq, ◌⊎◌, inl, inr, List, [], ◌∷◌, map, length, Some, Option, add-zero, sym, refl, ap, ap₂, ◌∙◌, subst, arith}
 use Rattle.std.specs.List.{range_with_len, list_all, fold}
-use Rattle.std.specs.Bool.{beq}
 use Rattle.std.specs.Option.{option_eq}
 use Rattle.layout.specs.contracts.number.WidthPartialEq.TheImpl.{eq-value}
-use Rattle.std.specs.Cmp.{booleans_Decides}
 use Rattle.std.specs.Cmp.Lexicographic.{same_text, other_text}
 use lib.Pointwise.{pointwise}
 use Rattle.std.proofs.lemmas.Nat.{mul-le}
-use Rattle.std.proofs.lemmas.Bool.{eqb-true, eq-eqb, and_parts, and_from, not-false, false≢true}
+use Rattle.std.proofs.lemmas.Bool.{eqb-true, eq-eqb, false≢true}
 use Rattle.layout.specs.declared.bit.BitSlice.{BitSlice}
 use Rattle.layout.specs.declared.fault.Refusal.TheVariants.{Nesting, Offset}
 use Rattle.layout.specs.declared.kind.Kind.{Kind}
@@ -16,7 +14,7 @@ use Rattle.layout.specs.declared.kind.Kind.TheVariants.{Null, Boolean, Fixed, By
 use Rattle.layout.specs.declared.node.Node.{Node}
 use Rattle.layout.specs.declared.number.Width.{Width}
 use Rattle.layout.specs.declared.number.Width.TheVariants.{Four, Eight}
-use Rattle.layout.specs.BitSlices.{bit_in}
+use Rattle.layout.specs.Bits.{bytes_for}
 use Rattle.layout.specs.Kinds.{kind_number, offset_width, has_data}
 use Rattle.layout.specs.Nodes.{end_of}
 use Rattle.layout.specs.Lists.{cut}
@@ -42,9 +40,10 @@ use Rattle.recording.specs.Windows.{window_in}
 use Rattle.recording.proofs.WindowFacts.{inside_of}
 use Rattle.recording.proofs.Reading.{rules_at, one_width}
 use Rattle.recording.proofs.Below.{sides_are}
-use Rattle.dictionaries.specs.Rows.{same_nodes, Alike, SameRows, Valid, slots_in, SameCounts, strings_in, elements_in, Pairwise}
-use Rattle.dictionaries.specs.Windows.{SameParts, TellsCounts, offset_in, count_in}
-use Rattle.dictionaries.proofs.Runs.{part_of, valid_rows, part_alike, same_runs, null_rows, part_rows, rows_part, rows_more}
+use Rattle.dictionaries.specs.Rows.{same_nodes, Alike, SameRows, SameMarks, Valid, slots_in, SameCounts, strings_in, elements_in, Pairwise}
+use Rattle.dictionaries.specs.Windows.{SameParts, TellsCounts, same_byte, offset_in, count_in}
+use Rattle.dictionaries.proofs.Marks.{bits_told}
+use Rattle.dictionaries.proofs.Runs.{part_of, marks_of_rows, run_of_both, valid_rows, part_alike, null_rows, part_rows, rows_part, rows_more}
 use Rattle.dictionaries.proofs.Shapes.{all_at, all_from, same_shapes, same_spans, one_shape_kind, one_shape_size, plain_kind, alike_elements, alike_parts}
 use Rattle.dictionaries.proofs.ValidRows.{null_kind, bits_same, slots_same, strings_same, elements_same, counts_total, parts_same}
 
@@ -149,18 +148,6 @@ eight_wide n k b is (w, (j, at, h)) e f = (k, is, by k (subst (λ (k : Kind). of
 
 -- ---- runs
 
--- whether the runs of two windows differ
-abbrev pub runs_differ : Run → Run → Bool
-runs_differ mine others = not (beq others.valid mine.valid && eqb others.rows mine.rows)
-
-differ_not : (run : Run) → runs_differ run run ≡ false
-differ_not run = ap not (and_from (beq run.valid run.valid) (eqb run.rows run.rows) ((booleans_Decides run.valid run.valid).1 refl) (eq-eqb run.rows run.rows refl))
-
-differ_or : (mine others : Run) → runs_differ mine others ≡ false → others ≡ mine
-differ_or mine others e =
-    let both = and_parts (beq others.valid mine.valid) (eqb others.rows mine.rows) (not-false _ e) in
-    ap₂ (λ (b : Bool) (n : ℕ). record { valid = b; rows = n }) ((booleans_Decides others.valid mine.valid).0 both.0) (eqb-true _ _ both.1)
-
 module _ (one other : Window) (alike : Alike (window_in one) (window_in other)) where
   abbrev v : layout.Window
   v = window_in one
@@ -168,25 +155,23 @@ module _ (one other : Window) (alike : Alike (window_in one) (window_in other)) 
   abbrev w : layout.Window
   w = window_in other
 
-  -- a run of each, from one row on
-  module _ (from : ℕ) (mine others : Run) (a : IsRun v from mine) (b : IsRun w from others) where
-    pub runs_tell : runs_differ mine others ≡ true → SameRows v w → ⊥
-    runs_tell e same =
-        let run = same_runs v w (inside_of one) (inside_of other) alike from mine others a b same in
-        false≢true (sym (differ_not mine) ∙ ap (runs_differ mine) run ∙ e)
+  -- where rows that are valid differ, rows do
+  pub marks_tell : (t : Bool) → (t ≡ true) ↔ SameMarks v w → t ≡ false → (false ≡ true) ↔ SameRows v w
+  marks_tell t told e = (λ f. absurd (false≢true f), λ same. sym e ∙ told.1 (marks_of_rows v w (inside_of one) (inside_of other) alike same))
 
-    others_run : runs_differ mine others ≡ false → IsRun w from mine
-    others_run e = subst (IsRun w from) (differ_or mine others e) b
+  -- a run of one, from a row on, where the same rows of both are valid
+  module _ (marks : SameMarks v w) (from : ℕ) (run : Run) (a : IsRun v from run) where
+    others_run : IsRun w from run
+    others_run = run_of_both v w (inside_of one) (inside_of other) alike marks from run a
 
     -- null rows are the same; valid ones are if they are so in parts of both windows
-    pub null_more : runs_differ mine others ≡ false → mine.valid ≡ false → ((r : ℕ) → r < from → value_in v r ≡ value_in w r)
-        → (r : ℕ) → r < from + mine.rows → value_in v r ≡ value_in w r
-    null_more e null before =
-        rows_more v w (inside_of one) (inside_of other) alike from mine.rows before
-        (null_rows v w (inside_of one) (inside_of other) alike from mine a (others_run e) null)
+    pub null_more : run.valid ≡ false → ((r : ℕ) → r < from → value_in v r ≡ value_in w r) → (r : ℕ) → r < from + run.rows → value_in v r ≡ value_in w r
+    null_more null before =
+        rows_more v w (inside_of one) (inside_of other) alike from run.rows before
+        (null_rows v w (inside_of one) (inside_of other) alike from run a others_run null)
 
-    pub both_valid : runs_differ mine others ≡ false → mine.valid ≡ true → Valid (part_of v from mine.rows) × Valid (part_of w from mine.rows)
-    both_valid e valid = (valid_rows v from mine a valid, valid_rows w from mine (others_run e) valid)
+    pub both_valid : run.valid ≡ true → Valid (part_of v from run.rows) × Valid (part_of w from run.rows)
+    both_valid valid = (valid_rows v from run a valid, valid_rows w from run others_run valid)
 
   -- parts of both windows
   module _ (from n : ℕ) (p q : Window) (e : window_in p ≡ part_of v from n) (f : window_in q ≡ part_of w from n) where
@@ -299,19 +284,13 @@ module _ (one other : Window) (alike : Alike (window_in one) (window_in other)) 
 
   module _ (valid : Valid mine) (valids : Valid others) where
     pub bits_tell : (a b : BitSlice) (r : Bool) → Is (numbers_of one.node) Boolean → AreFlags one a → AreFlags other b
-        → r ≡ list_all (λ i. beq (bit_in a i) (bit_in b i)) (range_with_len 0 a.len) → (r ≡ true) ↔ SameRows mine others
+        → r ≡ list_all (same_byte a b) (range_with_len 0 (bytes_for a.len)) → (r ≡ true) ↔ SameRows mine others
     bits_tell a b r is f g e =
-        let test = λ (i : ℕ). beq (bit_in a i) (bit_in b i) in
+        let told = bits_told a b r (omega (arith, f.count, g.count, alike.rows)) e in
         let same = bits_same mine others (inside_of one) (inside_of other) alike.rows valid valids is (others_kind one other alike Boolean is) in
         across (
-          λ t i l.
-              sym (f.each i l)
-              ∙ (booleans_Decides (bit_in a i) (bit_in b i)).0 (all_at test 0 a.len i (sym e ∙ t) (omega arith) (omega (arith, f.count)))
-              ∙ g.each i (omega (arith, alike.rows)),
-          λ s.
-              e ∙ all_from test 0 a.len
-              (λ i l m. (booleans_Decides (bit_in a i) (bit_in b i)).1
-              (f.each i (omega (arith, f.count)) ∙ s i (omega (arith, f.count)) ∙ sym (g.each i (omega (arith, f.count, alike.rows))))),
+          λ t i l. sym (f.each i l) ∙ told.0 t i (omega (arith, f.count)) ∙ g.each i (omega (arith, alike.rows)),
+          λ s. told.1 (λ i l. f.each i (omega (arith, f.count)) ∙ s i (omega (arith, f.count)) ∙ sym (g.each i (omega (arith, f.count, alike.rows)))),
         ) same
 
     pub slots_tell : (xs ys : List ℕ) (r : Bool) → Is (numbers_of one.node) Fixed → xs ≡ slots_of one → ys ≡ slots_of other → r ≡ pointwise nat_eq xs ys

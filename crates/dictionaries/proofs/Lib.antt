@@ -5,6 +5,7 @@ pub mod Shapes
 pub mod Tests
 pub mod Updates
 pub mod ValidRows
+pub mod Marks
 pub mod Walking
 pub mod Walks
 pub mod Keeping

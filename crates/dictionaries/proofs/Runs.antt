@@ -1,5 +1,5 @@
 -- Windows compared run by run.
-use Rattle.std.proofs.Common.{◌≡◌, ℕ, ◌+◌, ◌-◌, ◌<◌, ◌≤◌, Bool, true, false, not, cond, sym, refl, ap, ap₂, ◌∙◌, subst, inl, inr, arith}
+use Rattle.std.proofs.Common.{◌≡◌, ℕ, ◌+◌, ◌-◌, ◌<◌, ◌≤◌, Bool, true, false, cond, sym, refl, ap, ◌∙◌, subst, inl, inr, arith}
 use Rattle.std.proofs.lemmas.Bool.{cases_eq, cases_lt, eq-eqb, ne_eqb}
 use Rattle.layout.specs.declared.fault.Refusal.TheVariants.{KindOrSize}
 use Rattle.layout.specs.declared.kind.Kind.TheVariants.{Dictionary}
@@ -11,7 +11,7 @@ use Rattle.layout.specs.Windows.{value_at, Window, Inside, tree_in, top_in, valu
 use Rattle.layout.proofs.Opening.{kept_rule}
 use Rattle.recording.specs.declared.runs.Run.{Run}
 use Rattle.recording.specs.Contents.{valid_at, IsRun}
-use Rattle.dictionaries.specs.Rows.{SameRows, Alike, Valid}
+use Rattle.dictionaries.specs.Rows.{SameRows, SameMarks, Alike, Valid}
 use Rattle.dictionaries.proofs.Shapes.{one_shape_kind, plain_kind}
 use Rattle.dictionaries.proofs.ValidRows.{null_row, null_kind, valid_row}
 
@@ -27,10 +27,6 @@ part_value w a n r = ap (value_at w.bytes (tree_in w)) (omega arith)
 
 tabled_at : (w : Window) → Inside w → Tabled (top_in w)
 tabled_at w g = kept_rule w.nodes w.bytes g.opened w.node g.stands KindOrSize
-
-not_both : (b : Bool) → b ≡ not b → ⊥
-not_both true e = cc
-not_both false e = cc
 
 -- validity goes by the bits, but for a Null
 never_valid : (u : Window) (r : ℕ) → (top_in u).kind ≡ 0 → valid_at u r ≡ false
@@ -82,34 +78,19 @@ module _ (v w : Window) (g : Inside v) (h : Inside w) (alike : Alike v w) where
   as_by false true r l e x y = absurd (has_value w h plain_other r (omega (arith, alike.rows)) y (sym e ∙ no_value v g r x))
   as_by false false r l e x y = refl
 
-  pub as_valid : (r : ℕ) → r < v.rows → value_in v r ≡ value_in w r → valid_at v r ≡ valid_at w r
-  as_valid r l e = as_by (valid_at v r) (valid_at w r) r l e refl refl
-
-  -- so their runs are the same
-  no_shorter : (u t : Window) (from : ℕ) (mine others : Run) → IsRun u from mine → IsRun t from others → ((r : ℕ) → r < u.rows → valid_at u r ≡ valid_at t r) → u.rows ≡ t.rows
-      → mine.valid ≡ others.valid → mine.rows < others.rows → ⊥
-  no_shorter u t from mine others a b same rows valid l =
-      let e : others.valid ≡ not mine.valid = sym (b.alike mine.rows l) ∙ sym (same (from + mine.rows) (omega (arith, b.within))) ∙ a.whole (omega (arith, b.within)) in
-      not_both mine.valid (valid ∙ e)
-
-  pub same_runs : (from : ℕ) (mine others : Run) → IsRun v from mine → IsRun w from others → SameRows v w → mine ≡ others
-  same_runs from mine others a b same =
-      let each : (r : ℕ) → r < v.rows → valid_at v r ≡ valid_at w r = λ r l. as_valid r l (same r l) in
-      let back : (r : ℕ) → r < w.rows → valid_at w r ≡ valid_at v r = λ r l. sym (each r (omega (arith, alike.rows))) in
-      let zero_plus : from + 0 ≡ from = omega arith in
-      let valid : mine.valid ≡ others.valid = sym (a.alike 0 a.some) ∙ each (from + 0) (omega (arith, a.some, a.within)) ∙ b.alike 0 b.some in
-      let rows : mine.rows ≡ others.rows =
-      elim (cases_eq mine.rows others.rows) [
-        | inl e ↦ e
-        | inr ne ↦
-            (elim (cases_lt mine.rows others.rows) [
-              | inl l ↦ absurd (no_shorter v w from mine others a b each alike.rows valid l)
-              | inr l ↦ absurd (no_shorter w v from others mine b a back (sym alike.rows) (sym valid) (omega arith))
-            ])
-      ] in
-      ap₂ (λ (b : Bool) (n : ℕ). record { valid = b; rows = n }) valid rows
+  pub marks_of_rows : SameRows v w → SameMarks v w
+  marks_of_rows same r l = as_by (valid_at v r) (valid_at w r) r l (same r l) refl refl
 
   -- ---- a run of each
+
+  -- where the same rows are valid, a run of one is a run of the other
+  pub run_of_both : SameMarks v w → (from : ℕ) (run : Run) → IsRun v from run → IsRun w from run
+  run_of_both same from run a = record {
+    some = a.some;
+    within = omega (arith, a.within, alike.rows);
+    alike = λ r l. sym (same (from + r) (omega (arith, a.within))) ∙ a.alike r l;
+    whole = λ l. sym (same (from + run.rows) (omega (arith, alike.rows))) ∙ a.whole (omega (arith, alike.rows));
+  }
 
   pub null_rows : (from : ℕ) (run : Run) → IsRun v from run → IsRun w from run → run.valid ≡ false → (r : ℕ) → r < run.rows → value_in v (from + r) ≡ value_in w (from + r)
   null_rows from run a b e r l = no_value v g (from + r) (a.alike r l ∙ e) ∙ sym (no_value w h (from + r) (b.alike r l ∙ e))

@@ -8,6 +8,7 @@ use Rattle.layout.specs.Nodes.{node_at}
 use Rattle.layout.specs.Lists.{cut}
 use Rattle.layout.specs.Rows.{mark_at, flag_at, count_at}
 use Rattle.layout.specs.Windows.{Window, tree_in, top_in, value_in, shape_in, met_in, rows_at, passed_first, passed_count}
+use Rattle.recording.specs.Contents.{valid_at}
 
 -- the rows of one have the values of the rows of the other
 abbrev pub SameRows : Window → Window → Type 0
@@ -18,6 +19,10 @@ pub record Alike (v w : Window) : Type 0 where
   pub shapes : shape_in v ≡ shape_in w
   pub rows : v.rows ≡ w.rows
   pub plain : met_in (tree_in v) ≡ []
+
+-- the same rows are valid
+abbrev pub SameMarks : Window → Window → Type 0
+SameMarks v w = (r : ℕ) → r < v.rows → valid_at v r ≡ valid_at w r
 
 -- every row's bit is 1
 abbrev pub Valid : Window → Type 0

@@ -1,5 +1,8 @@
 -- What comparing windows of recordings tells.
-use Rattle.std.specs.Prelude.{◌≡◌, ℕ, ◌+◌, ◌-◌, ◌*◌, Bool, true, ◌↔◌, List, map}
+use Rattle.std.specs.Prelude.{◌≡◌, ℕ, ◌+◌, ◌-◌, ◌*◌, Bool, true, ◌↔◌, List, map, ◌==◌}
+use Rattle.layout.specs.declared.bit.BitSlice.{BitSlice}
+use Rattle.layout.specs.Bits.{byte_of}
+use Rattle.layout.specs.BitSlices.{bits_in}
 use Rattle.layout.specs.declared.kind.Kind.TheVariants.{Struct}
 use Rattle.layout.specs.declared.number.Width.{Width}
 use Rattle.layout.specs.Lists.{cut}
@@ -28,3 +31,7 @@ count_in bs x r = offset_in bs x (r + 1) - offset_in bs x r
 abbrev pub TellsCounts : Bool → Window → Window → Type 0
 TellsCounts b one other =
     (w : Width) → HasOffsets (numbers_of one.node) w → HasOffsets (numbers_of other.node) w → (b ≡ true) ↔ SameCounts (wide w) (window_in one) (window_in other)
+
+-- eight bits of two slices are the same
+abbrev pub same_byte : BitSlice → BitSlice → ℕ → Bool
+same_byte a b i = byte_of (cut (8 * i) 8 (bits_in a)) == byte_of (cut (8 * i) 8 (bits_in b))

@@ -2,7 +2,7 @@
 ghost use Rattle.std.specs.Prelude.{◌≡◌, true, [], ◌↔◌, ◌<◌, ◌≤◌, ◌+◌, ◌*◌, ◌&&◌, length, ◌==◌};
 ghost use Rattle.std.specs.Bool.{beq};
 ghost use Rattle.std.specs.List.{range_with_len, list_all, fold};
-ghost use Rattle.layout.specs.BitSlices.{bit_in};
+ghost use Rattle.layout.specs.Bits.{bytes_for};
 ghost use Rattle.layout.specs.Kinds.{kind_number};
 ghost use Rattle.layout.specs.Numbers.{wide};
 ghost use Rattle.layout.specs.Rules.{Is, HasOffsets};
@@ -11,10 +11,10 @@ ghost use Rattle.layout.specs.Windows.{shape_of, met_in, tree_in, shown_in};
 ghost use Rattle.recording.specs.NodeRefs.{table_of, run_of, numbers_of};
 ghost use Rattle.recording.specs.Windows.{window_in};
 ghost use Rattle.dictionaries.specs.Comparing.{comparison};
-ghost use Rattle.dictionaries.specs.Rows.{Alike, SameRows, Valid, uses_size, same_node, same_nodes};
-ghost use Rattle.dictionaries.specs.Windows.{SameParts, TellsCounts, offset_in, count_in};
+ghost use Rattle.dictionaries.specs.Rows.{Alike, SameRows, SameMarks, Valid, uses_size, same_node, same_nodes};
+ghost use Rattle.dictionaries.specs.Windows.{SameParts, TellsCounts, same_byte, offset_in, count_in};
 
-use layout::{BitSlice, Kind, Width, read};
+use layout::{BitSlice, Kind, Width, bytes_for, read};
 use recording::{NodeRef, Window};
 
 /// How a new dictionary compares with the one that was kept.
@@ -87,12 +87,13 @@ fn equal_rows(one: &Window, other: &Window) -> bool
     requires { Alike (window_in one.now) (window_in other.now) }
     ensures { (result ≡ true) ↔ SameRows (window_in one.now) (window_in other.now) }
 {
+    // Which rows are valid is compared first, eight of them at a time.
+    if !equal_marks(one, other) {
+        return false;
+    }
     let mut from = 0;
     while from < one.rows() {
         let run = one.run_from(from);
-        if other.run_from(from) != run {
-            return false;
-        }
         // What lies under nulls does not count.
         if run.valid && !equal_valid_rows(&one.part(from, run.rows), &other.part(from, run.rows)) {
             return false;
@@ -100,6 +101,20 @@ fn equal_rows(one: &Window, other: &Window) -> bool
         from += run.rows;
     }
     true
+}
+
+// Whether the same rows of two windows are valid.
+fn equal_marks(one: &Window, other: &Window) -> bool
+    requires { Alike (window_in one.now) (window_in other.now) }
+    ensures { (result ≡ true) ↔ SameMarks (window_in one.now) (window_in other.now) }
+{
+    match (one.marks(), other.marks()) {
+        (Some(mine), Some(others)) => equal_bits(&mine, &others),
+        // Without a bitmap all rows are valid.
+        (Some(mine), None) => mine.count_zeros() == 0,
+        (None, Some(others)) => others.count_zeros() == 0,
+        (None, None) => true,
+    }
 }
 
 // The same where every row is valid.
@@ -144,12 +159,12 @@ fn equal_parts(one: &Window, other: &Window) -> bool
     true
 }
 
-// Whether bits are the same, one by one.
+// Whether bits are the same, eight at a time.
 fn equal_bits(one: &BitSlice, other: &BitSlice) -> bool
     requires { one.now.len ≡ other.now.len }
-    ensures { result ≡ list_all (λ i. beq (bit_in one.now i) (bit_in other.now i)) (range_with_len 0 one.now.len) }
+    ensures { result ≡ list_all (same_byte one.now other.now) (range_with_len 0 (bytes_for one.now.len)) }
 {
-    (0..one.len).all(|i| one.is_set(i) == other.is_set(i))
+    (0..bytes_for(one.len)).all(|i| one.byte(i) == other.byte(i))
 }
 
 // Whether each row of two windows has as many bytes or elements as the same row of the other.

@@ -33,7 +33,7 @@ impl Written {
     ghost use Rattle.dictionaries.specs.Tracking.{nothing_kept, entry_of, kept_at, entered, values_of};
 
     /// Nothing is kept.
-    pub fn new() -> Written
+    pub(crate) fn new() -> Written
         ensures { result.entries ≡ replicate 64 nothing_kept }
     {
         Written {
@@ -42,14 +42,14 @@ impl Written {
     }
 
     /// What is kept of an id, if anything is.
-    pub fn get(&self, id: usize) -> Option<DictionaryValues>
+    pub(crate) fn get(&self, id: usize) -> Option<DictionaryValues>
         ensures { result ≡ kept_at self.now.entries id }
     {
         self.entries.get(id)?.kept
     }
 
     /// Keeps values under an id, and changes no other entry.
-    pub fn insert(&mut self, id: usize, values: DictionaryValues)
+    pub(crate) fn insert(&mut self, id: usize, values: DictionaryValues)
         requires { id < 64 }
         ensures { self.new.entries ≡ slice_set self.old.entries id (entry_of values) }
     {
@@ -58,7 +58,7 @@ impl Written {
 
     /// What is sent of a dictionary under an id, whose values are all rows of a node, with no dictionary below. They are kept
     /// from then on, unless they equal what was kept, or would replace it where that is refused.
-    pub fn insert_column(
+    pub(crate) fn insert_column(
         &mut self,
         dict_id: usize,
         new: &Window,
@@ -91,7 +91,7 @@ impl Written {
     }
 
     /// Keeps nothing under an id.
-    pub fn remove(&mut self, id: usize)
+    pub(crate) fn remove(&mut self, id: usize)
         requires { id < 64 }
         ensures { self.new.entries ≡ slice_set self.old.entries id nothing_kept }
     {

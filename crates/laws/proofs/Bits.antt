@@ -1,28 +1,18 @@
 -- Bits and little-endian numbers.
 use Rattle.std.proofs.Common.{◌≡◌, ℕ, zero, suc, ◌+◌, ◌*◌, ◌/◌, ◌%◌, ◌^◌, ◌<◌, ◌≤◌, Bool, true, false, cond, List, [], ◌∷◌, map, length, get_or, drop, refl, ap, ◌∙◌, le_of_suc-le-suc, not-suc-le-zero, arith, get_or-drop, get_or-take}
-use native.Mathlib.Nat.{pow-succ', pow-le-pow_right, div-div-eq-div-mul, zero-div}
+use native.Mathlib.Nat.{pow-le-pow_right}
 use lib.ListN.{length-map}
-use Rattle.std.proofs.lemmas.Bool.{eq-eqb, ne_eqb, lt-ltb, ltb-true}
+use Rattle.std.proofs.lemmas.Bool.{lt-ltb, ltb-true}
 use Rattle.layout.specs.Lists.{cut}
 use Rattle.layout.specs.Numbers.{le, unle, le_all, natural, number}
-use Rattle.layout.specs.Bits.{byte_of, bytes_for, pack, bit_of, bit_at, zeros}
+use Rattle.layout.specs.Bits.{byte_of, bytes_for, pack, bit_at, zeros}
 use Rattle.laws.proofs.Good.{Each}
-use mir.Val.{bool_byte}
+use Rattle.layout.proofs.Bits.{byte_bit}
 use Rattle.layout.proofs.Lists.{get_or_rows, length-rows}
 use Rattle.layout.specs.Spelling.{length-le, unle-le}
 use Rattle.laws.proofs.Lists.{cut_fixed}
 
 -- ---- bits
-
-half : (b : Bool) (n : ℕ) → (bool_byte b + 2 * n) / 2 ≡ n
-half true n = omega arith
-half false n = omega arith
-
-pub byte_bit : (bs : List Bool) (i : ℕ) → bit_of (byte_of bs) i ≡ get_or bs i false
-byte_bit [] i = rw (zero-div (2 ^ i))
-byte_bit (true ∷ bs) zero = eq-eqb ((1 + 2 * byte_of bs) / 1 % 2) 1 (omega arith)
-byte_bit (false ∷ bs) zero = ne_eqb ((0 + 2 * byte_of bs) / 1 % 2) 1 (λ e. omega arith)
-byte_bit (b ∷ bs) (suc i) = rw (pow-succ' 2 i, ← div-div-eq-div-mul (bool_byte b + 2 * byte_of bs) 2 (2 ^ i), half b (byte_of bs)) (byte_bit bs i)
 
 pub pack-bit : (bs : List Bool) (r : ℕ) → r < length bs → bit_at (pack bs) r ≡ get_or bs r false
 pack-bit bs r h =

@@ -13,7 +13,8 @@ use Rattle.layout.specs.Messages.{offsets}
 use mir.Val.{bool_byte}
 use Rattle.layout.proofs.Lists.{rows_same, get_or_rows, length-rows, length_cut}
 use Rattle.laws.proofs.Lists.{cut-rows, rows_add, rows_get_or, join_cuts}
-use Rattle.laws.proofs.Bits.{byte_bit, length-pack}
+use Rattle.layout.proofs.Bits.{byte_bit}
+use Rattle.laws.proofs.Bits.{length-pack}
 use Rattle.laws.proofs.Round.{bits_at_lem}
 use Rattle.laws.proofs.Says.{slot_rises, counts_are}
 

@@ -1,5 +1,6 @@
 -- Bits of bytes.
-use Rattle.std.proofs.Common.{◌≡◌, ℕ, zero, suc, ◌+◌, ◌*◌, ◌/◌, ◌%◌, ◌^◌, ◌<◌, ◌≤◌, Bool, true, false, cond, not, ◌&&◌, ◌||◌, eqb, List, ◌∷◌, count_by, sym, refl, ap, ◌∙◌, ap₂, mod-eq_of_lt, suc-mul, add_comm, pow-suc, zero-mul, arith}
+use Rattle.std.proofs.Common.{◌≡◌, ℕ, zero, suc, ◌+◌, ◌*◌, ◌/◌, ◌%◌, ◌^◌, ◌<◌, ◌≤◌, Bool, true, false, cond, not, ◌&&◌, ◌||◌, eqb, List, [], ◌∷◌, count_by, get_or, sym, refl, ap, ◌∙◌, ap₂, mod-eq_of_lt, suc-mul, add_comm, pow-suc, zero-mul, arith}
+use native.Mathlib.Nat.{pow-succ', div-div-eq-div-mul, zero-div}
 use lib.Bits.{bit_and}
 use mir.Val.{bool_byte}
 use Rattle.std.specs.List.{range_with_len}
@@ -9,7 +10,7 @@ use Rattle.std.proofs.lemmas.List.Sums.{sum_by-cons}
 use Rattle.layout.specs.Lists.{rows, every}
 use Rattle.layout.proofs.Every.{turned}
 use Rattle.layout.proofs.Lists.{rows_same}
-use Rattle.layout.specs.Bits.{bit_of, zeros}
+use Rattle.layout.specs.Bits.{bit_of, byte_of, zeros}
 
 pub zeros_first : (b : Bool) (bs : List Bool) → zeros (b ∷ bs) ≡ cond b 0 1 + zeros bs
 zeros_first true bs = omega arith
@@ -97,3 +98,15 @@ flags_masked (suc n) f b =
 
     low_flags : (n : ℕ) (f : ℕ → Bool) → flags (suc n) f % 2 ^ n ≡ flags n f
     low_flags n f = ap (λ (m : ℕ). m % 2 ^ n) (add_comm (flags n f) (bool_byte (f n) * 2 ^ n)) ∙ mod_low (bool_byte (f n)) n (flags n f) (flags_small n f)
+
+-- ---- the bits of a byte that bits make
+
+half : (b : Bool) (n : ℕ) → (bool_byte b + 2 * n) / 2 ≡ n
+half true n = omega arith
+half false n = omega arith
+
+pub byte_bit : (bs : List Bool) (i : ℕ) → bit_of (byte_of bs) i ≡ get_or bs i false
+byte_bit [] i = rw (zero-div (2 ^ i))
+byte_bit (true ∷ bs) zero = eq-eqb ((1 + 2 * byte_of bs) / 1 % 2) 1 (omega arith)
+byte_bit (false ∷ bs) zero = ne_eqb ((0 + 2 * byte_of bs) / 1 % 2) 1 (λ e. omega arith)
+byte_bit (b ∷ bs) (suc i) = rw (pow-succ' 2 i, ← div-div-eq-div-mul (bool_byte b + 2 * byte_of bs) 2 (2 ^ i), half b (byte_of bs)) (byte_bit bs i)

@@ -2,6 +2,7 @@ pub mod Arrays
 pub mod Lists
 pub mod Numbers
 pub mod Bits
+pub mod Bytes
 pub mod Table
 pub mod Every
 pub mod Kids

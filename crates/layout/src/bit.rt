@@ -1,4 +1,4 @@
-ghost use Rattle.std.specs.Prelude.{◌≡◌, ℕ, ◌+◌, ◌-◌, ◌*◌, ◌/◌, ◌%◌, ◌^◌, ◌<◌, ◌≤◌, min, length, not, sum_by};
+ghost use Rattle.std.specs.Prelude.{◌≡◌, ℕ, ◌+◌, ◌-◌, ◌*◌, ◌/◌, ◌%◌, ◌^◌, ◌<◌, ◌≤◌, min, length, not, sum_by, slice_index};
 ghost use Rattle.layout.specs.Lists.{rows};
 ghost use Rattle.layout.specs.Bits.{bit_of, bit_at, bytes_for, zeros, zeros_in};
 
@@ -49,7 +49,9 @@ impl<'a> BitSlice<'a> {
     ghost use Rattle.std.specs.Prelude.{count_by, take_while};
     ghost use Rattle.std.specs.Bool.{beq};
     ghost use Rattle.std.specs.List.{range_with_len};
+    ghost use Rattle.layout.specs.Bits.{byte_of};
     ghost use Rattle.layout.specs.BitSlices.{bit_in, bits_in, IsPart};
+    ghost use Rattle.layout.specs.Lists.{cut};
 
     /// So many of them, from bit `from` of them on.
     pub fn part(&self, from: u64, len: u64) -> BitSlice<'a>
@@ -69,6 +71,20 @@ impl<'a> BitSlice<'a> {
         ensures { result ≡ bit_in self.now i }
     {
         read_bit(self.bytes, self.first + i)
+    }
+
+    /// Byte i of them, with the first of its bits the lowest. Where they end within it, the bits after the last are 0.
+    pub fn byte(&self, i: u64) -> u8
+        requires { 8 * i < self.now.len }
+        ensures { result ≡ byte_of (cut (8 * i) 8 (bits_in self.now)) }
+    {
+        let place = self.first + 8 * i;
+        let at = (place / 8) as usize;
+        // Its bits lie in one byte, or in two.
+        let two = [byte_at(self.bytes, at), byte_at(self.bytes, at + 1)];
+        let bits = u16::from_le_bytes(two) >> (place % 8) as u32;
+        let count = (self.len - 8 * i).min(8);
+        (bits % (1 << count as u32)) as u8
     }
 
     /// How many of them, from the first on, are as `bit` says.
@@ -121,6 +137,13 @@ impl<'a> BitSlice<'a> {
     {
         (0..self.len).filter(|i| !self.is_set(*i)).count() as u64
     }
+}
+
+// A byte, or 0 where there is none.
+fn byte_at(bytes: &[u8], at: usize) -> u8
+    ensures { result ≡ slice_index bytes.now at }
+{
+    bytes.get(at).copied().unwrap_or(0)
 }
 
 // How many bits of a byte, from the lowest on, are as `bit` says.

@@ -15,17 +15,18 @@ use Rattle.layout.specs.Bits.{bit_at}
 use Rattle.layout.specs.BitSlices.{bit_in, IsPart}
 use Rattle.layout.specs.Kinds.{has_bitmap}
 use Rattle.layout.specs.Lists.{cut}
+use Rattle.layout.specs.Nodes.{bitmap_of}
 use Rattle.layout.specs.Numbers.{wide}
 use Rattle.layout.specs.Rows.{mark_in, mark_at}
 use Rattle.layout.specs.Rules.{Is, HasOffsets, ChildrenFit, Placed}
 use Rattle.layout.specs.Windows.{passed_count}
-use Rattle.layout.proofs.Facts.{fixed_lie, keys_lie, offsets_lie}
+use Rattle.layout.proofs.Facts.{one_kind, fixed_lie, keys_lie, offsets_lie}
 use Rattle.layout.proofs.Kids.{one_child}
 use Rattle.layout.proofs.Lists.{length_cut}
 use Rattle.recording.specs.declared.node.NodeRef.{NodeRef}
 use Rattle.recording.specs.declared.offsets.Offsets.{Offsets}
 use Rattle.recording.specs.declared.window.Window.{Window}
-use Rattle.recording.specs.Contents.{valid_at, IsRun, slots_of, AreOffsets, AreStrings}
+use Rattle.recording.specs.Contents.{valid_at, IsRun, TellValid, slots_of, AreOffsets, AreStrings}
 use Rattle.recording.specs.NodeRefs.{table_of, run_of, numbers_of, IsNode}
 use Rattle.recording.specs.Passing.{IsChild, AreContents}
 use Rattle.recording.specs.RowBits.{AreMarks}
@@ -78,23 +79,24 @@ same_first : (b : Bool) → beq b b ≡ true
 same_first true = refl
 same_first false = refl
 
--- ---- runs of a window
+-- ---- which rows are valid
 
-module _ (w : Window) (from : ℕ) (here : from < w.rows) where
+module _ (w : Window) where
   abbrev n : Node
   n = numbers_of w.node
 
   -- validity goes by the bits, but for a Null
-  valid_null : (k : Kind) → Is n k → has_bitmap k ≡ false → (r : ℕ) → valid_at (window_in w) r ≡ false
-  valid_null Null is e r = ap (λ (b : Bool). cond b false (mark_at (run_of w.node) n (w.first + r))) (eq-eqb n.kind 0 is)
-  valid_null Boolean is e r = cc
-  valid_null Fixed is e r = cc
-  valid_null Bytes32 is e r = cc
-  valid_null Bytes64 is e r = cc
-  valid_null List32 is e r = cc
-  valid_null List64 is e r = cc
-  valid_null Struct is e r = cc
-  valid_null Dictionary is e r = cc
+  pub valid_null : (k : Kind) → Is n k → has_bitmap k ≡ false → TellValid w None
+  valid_null Null is e j at r l =
+      ap (λ (b : Bool). cond b false (mark_at (run_of w.node) n (w.first + r))) (eq-eqb n.kind 0 is) ∙ ap has_bitmap {x = Null} {y = j} (one_kind n Null j is at)
+  valid_null Boolean is e j at r l = cc
+  valid_null Fixed is e j at r l = cc
+  valid_null Bytes32 is e j at r l = cc
+  valid_null Bytes64 is e j at r l = cc
+  valid_null List32 is e j at r l = cc
+  valid_null List64 is e j at r l = cc
+  valid_null Struct is e j at r l = cc
+  valid_null Dictionary is e j at r l = cc
 
   not_null : (k : Kind) → Is n k → has_bitmap k ≡ true → n.kind ≡ 0 → ⊥
   not_null Null is e z = cc
@@ -107,33 +109,42 @@ module _ (w : Window) (from : ℕ) (here : from < w.rows) where
   not_null Struct is e z = omega arith
   not_null Dictionary is e z = omega arith
 
-  valid_bit : (k : Kind) → Is n k → has_bitmap k ≡ true → (r : ℕ) → valid_at (window_in w) r ≡ mark_at (run_of w.node) n (w.first + r)
-  valid_bit k is e r = ap (λ (b : Bool). cond b false (mark_at (run_of w.node) n (w.first + r))) (ne_eqb n.kind 0 (not_null k is e))
+  module _ (k : Kind) (is : Is n k) (e : has_bitmap k ≡ true) where
+    valid_bit : (o : Option ℕ) → bitmap_of n ≡ o → (r : ℕ) → valid_at (window_in w) r ≡ mark_in (run_of w.node) o (n.from + (w.first + r))
+    valid_bit o at r =
+        ap (λ (b : Bool). cond b false (mark_at (run_of w.node) n (w.first + r))) (ne_eqb n.kind 0 (not_null k is e))
+        ∙ ap (λ (o : Option ℕ). mark_in (run_of w.node) o (n.from + (w.first + r))) at
 
-  pub run_null : (k : Kind) → Is n k → has_bitmap k ≡ false → IsRun (window_in w) from (record { valid = false; rows = w.rows - from })
-  run_null k is e = record {
+    pub valid_unmarked : AreMarks w.node None → TellValid w None
+    valid_unmarked none j at r l = valid_bit None none r ∙ sym e ∙ ap has_bitmap (one_kind n k j is at)
+
+    pub valid_marked : (all part : BitSlice) → AreMarks w.node (Some all) → IsPart all w.first w.rows part → TellValid w (Some part)
+    valid_marked all part (p, place, at) (bytes, first, rows) = record {
+      count = rows;
+      each = λ r l.
+          ap (λ (bs : List ℕ). bit_at bs (part.first + r)) (bytes ∙ at.0)
+          ∙ ap (bit_at (drop p (run_of w.node))) (omega (arith, first, at.1))
+          ∙ sym (valid_bit (Some p) place r);
+      kind = λ j at. sym (ap has_bitmap (one_kind n k j is at)) ∙ e;
+    }
+
+-- ---- runs of a window
+
+module _ (w : Window) (from : ℕ) (here : from < w.rows) where
+  pub run_unmarked : TellValid w None → (k : Kind) → Is (numbers_of w.node) k → IsRun (window_in w) from (record { valid = has_bitmap k; rows = w.rows - from })
+  run_unmarked valid k is = record {
     some = omega arith;
     within = omega arith;
-    alike = λ r l. valid_null k is e (from + r);
+    alike = λ r l. valid k is (from + r) (omega arith);
     whole = λ l. absurd (omega arith);
   }
 
-  pub run_unmarked : (k : Kind) → Is n k → has_bitmap k ≡ true → AreMarks w.node None → IsRun (window_in w) from (record { valid = true; rows = w.rows - from })
-  run_unmarked k is e none = record {
-    some = omega arith;
-    within = omega arith;
-    alike = λ r l. valid_bit k is e (from + r) ∙ ap (λ (o : Option ℕ). mark_in (run_of w.node) o (n.from + (w.first + (from + r)))) none;
-    whole = λ l. absurd (omega arith);
-  }
-
-  pub run_marked : (k : Kind) → Is n k → has_bitmap k ≡ true → (all some : BitSlice) → AreMarks w.node (Some all) → IsPart all (w.first + from) (w.rows - from) some
+  pub run_marked : (all some : BitSlice) → TellValid w (Some all) → IsPart all from (w.rows - from) some
       → (valid : Bool) (rows : ℕ) → valid ≡ bit_in some 0 → rows ≡ length (take_while (λ i. beq (bit_in some i) valid) (range_with_len 0 some.len))
       → IsRun (window_in w) from (record { valid = valid; rows = rows })
-  run_marked k is e all some (p, place, at) part valid rows first count =
-      let bit : (r : ℕ) → bit_in some r ≡ valid_at (window_in w) (from + r) = λ r.
-      ap (λ (bs : List ℕ). bit_at bs (some.first + r)) (part.0 ∙ at.0)
-      ∙ ap (bit_at (drop p (run_of w.node))) (omega (arith, part.1, at.1))
-      ∙ sym (valid_bit k is e (from + r) ∙ ap (λ (o : Option ℕ). mark_in (run_of w.node) o (n.from + (w.first + (from + r)))) place) in
+  run_marked all some marks part valid rows first count =
+      let bit : (r : ℕ) → from + r < w.rows → bit_in some r ≡ valid_at (window_in w) (from + r) = λ r l.
+      ap (λ (bs : List ℕ). bit_at bs (some.first + r)) part.0 ∙ ap (bit_at all.bytes.now) (omega (arith, part.1)) ∙ marks.each (from + r) l in
       let h = subst (Leading (λ i. beq (bit_in some i) valid) 0 some.len) (sym count) (leading (λ i. beq (bit_in some i) valid) some.len 0) in
       let start : beq (bit_in some 0) valid ≡ true = ap (beq (bit_in some 0)) first ∙ same_first (bit_in some 0) in
       let at_place : ℕ → Bool = λ x. beq (bit_in some x) valid in
@@ -143,8 +154,8 @@ module _ (w : Window) (from : ℕ) (here : from < w.rows) where
           | inr more ↦ omega arith
         ];
         within = omega (arith, h.most, part.2);
-        alike = λ r l. sym (bit r) ∙ as_first (bit_in some r) valid (ap at_place (omega arith) ∙ h.pass r l);
-        whole = λ l. sym (bit rows) ∙ unlike_first (bit_in some rows) valid (ap at_place (omega arith) ∙ h.stop (omega (arith, part.2)));
+        alike = λ r l. sym (bit r (omega (arith, h.most, part.2))) ∙ as_first (bit_in some r) valid (ap at_place (omega arith) ∙ h.pass r l);
+        whole = λ l. sym (bit rows l) ∙ unlike_first (bit_in some rows) valid (ap at_place (omega arith) ∙ h.stop (omega (arith, part.2)));
       }
 
 -- ---- slots

@@ -1,20 +1,21 @@
 -- What the rows of a window hold, one after another.
-use Rattle.std.specs.Prelude.{◌≡◌, ℕ, ◌+◌, ◌*◌, ◌<◌, ◌≤◌, Bool, false, not, cond, List, ◌==◌}
+use Rattle.std.specs.Prelude.{◌≡◌, ℕ, ◌+◌, ◌*◌, ◌<◌, ◌≤◌, Bool, true, false, not, cond, List, Some, None, Option, ◌==◌}
 use Rattle.layout.specs.declared.bit.BitSlice.{BitSlice}
+use Rattle.layout.specs.declared.kind.Kind.{Kind}
 use Rattle.layout.specs.declared.kind.Kind.TheVariants.{Null}
 use Rattle.layout.specs.declared.number.Width.{Width}
 use Rattle.layout.specs.BitSlices.{bit_in}
-use Rattle.layout.specs.Kinds.{kind_number}
+use Rattle.layout.specs.Kinds.{kind_number, has_bitmap}
 use Rattle.layout.specs.Lists.{cut}
 use Rattle.layout.specs.Numbers.{wide}
 use Rattle.layout.specs.Rows.{mark_at, flag_at}
-use Rattle.layout.specs.Rules.{HasOffsets}
+use Rattle.layout.specs.Rules.{Is, HasOffsets}
 use Rattle.layout.specs.Windows as layout
 use Rattle.layout.specs.Windows.{passed_first, passed_count, top_in}
 use Rattle.recording.specs.declared.runs.Run.{Run}
 use Rattle.recording.specs.declared.window.Window.{Window}
 use Rattle.recording.specs.NodeRefs.{run_of, numbers_of}
-use Rattle.recording.specs.Windows.{HasStrings}
+use Rattle.recording.specs.Windows.{window_in, HasStrings}
 
 -- row r of it is valid: its bit is 1, and no row of a Null is
 abbrev pub valid_at : layout.Window → ℕ → Bool
@@ -26,6 +27,17 @@ pub record IsRun (w : layout.Window) (from : ℕ) (run : Run) : Type 0 where
   pub within : from + run.rows ≤ w.rows
   pub alike : (r : ℕ) → r < run.rows → valid_at w (from + r) ≡ run.valid
   pub whole : from + run.rows < w.rows → valid_at w (from + run.rows) ≡ not run.valid
+
+-- a bit for each row, 1 where it is valid; a Null has none
+pub record AreMarks (w : Window) (bits : BitSlice) : Type 0 where
+  pub count : bits.len ≡ w.rows
+  pub each : (r : ℕ) → r < w.rows → bit_in bits r ≡ valid_at (window_in w) r
+  pub kind : (k : Kind) → Is (numbers_of w.node) k → has_bitmap k ≡ true
+
+-- those bits; without them every row is valid, but of a Null none
+abbrev pub TellValid : Window → Option BitSlice → Type 0
+TellValid w None = (k : Kind) → Is (numbers_of w.node) k → (r : ℕ) → r < w.rows → valid_at (window_in w) r ≡ has_bitmap k
+TellValid w (Some bits) = AreMarks w bits
 
 -- a bit for each row of a Boolean
 pub record AreFlags (w : Window) (bits : BitSlice) : Type 0 where

@@ -25,7 +25,7 @@ impl<'a> Window<'a> {
     ghost use Rattle.layout.specs.Shown.{below};
     ghost use Rattle.layout.specs.Windows.{shown_in, shown_side, rows_at};
     ghost use Rattle.layout.specs.declared.number.Width.{Width};
-    ghost use Rattle.recording.specs.Contents.{IsRun, AreFlags, slots_of, AreOffsets, AreStrings};
+    ghost use Rattle.recording.specs.Contents.{IsRun, TellValid, AreFlags, slots_of, AreOffsets, AreStrings};
     ghost use Rattle.recording.specs.Passing.{IsChild, IsPassed, ArePassed, AreContents, windows_left, ArePassedEach, IsSmaller, IsAfter};
     ghost use Rattle.recording.specs.RowPlaces.{rows_left, rows_of_window};
     ghost use Rattle.recording.specs.Windows.{window_in, HasStrings, HasElements};
@@ -79,22 +79,26 @@ impl<'a> Window<'a> {
         ensures { IsRun (window_in self.now) from result }
     {
         let left = self.rows - from;
-        if !self.node.kind().has_bitmap() {
-            return Run {
-                valid: false,
-                rows: left,
-            };
-        }
-        let Some(marks) = self.node.marks() else {
-            return Run {
-                valid: true,
-                rows: left,
-            };
+        let Some(marks) = self.marks() else {
+            let valid = self.node.kind().has_bitmap();
+            return Run { valid, rows: left };
         };
-        let marks = marks.part(self.first + from, left);
+        let marks = marks.part(from, left);
         let valid = marks.is_set(0);
         let rows = marks.count_leading(valid);
         Run { valid, rows }
+    }
+
+    /// A bit for each row, which is 1 where the row is valid, if the node has a bitmap. Else every row is valid, but of a
+    /// Null no row is.
+    pub fn marks(&self) -> Option<BitSlice<'a>>
+        ensures { TellValid self.now result }
+    {
+        if !self.node.kind().has_bitmap() {
+            return None;
+        }
+        let marks = self.node.marks()?;
+        Some(marks.part(self.first, self.rows))
     }
 
     /// The bits of a Boolean.

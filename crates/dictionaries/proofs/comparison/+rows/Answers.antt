@@ -4,16 +4,14 @@ use Rattle.layout.specs.declared.kind.Kind.TheVariants.{Boolean, Fixed, Struct}
 use Rattle.recording.specs.declared.windows.Windows.{Windows}
 use Rattle.recording.specs.Passing.{windows_left, ArePassedEach}
 use Rattle.dictionaries.specs.Rows.{SameRows, Alike}
-use Rattle.dictionaries.proofs.Comparing.{parts_tell, walks_alike, walks_left, pairs_next, pairs_more, kind_read, others_kind, both_strings, both_lists, others_offsets, others_have, counts_same, counts_differ, none_tell, bits_tell, slots_tell, strings_tell, string_counts, element_counts, elements_alike, elements_tell, runs_tell, both_valid, null_more, parts_alike, parts_valid, part_span, part_same, part_more}
+use Rattle.dictionaries.proofs.Comparing.{parts_tell, walks_alike, walks_left, pairs_next, pairs_more, kind_read, others_kind, both_strings, both_lists, others_offsets, others_have, counts_same, counts_differ, none_tell, bits_tell, slots_tell, strings_tell, string_counts, element_counts, elements_alike, elements_tell, marks_tell, both_valid, null_more, parts_alike, parts_valid, part_span, part_same, part_more}
 use Rattle.dictionaries.proofs.comparison.+rows.Goals as goal
 use Rattle.dictionaries.proofs.comparison.+rows.Goals.{equal_rows-else-run-via-then-run+else-not-equal_valid_rows, equal_rows-else-run-via-else-run}
 
 -- ---- equal_rows
 
-pub equal_rows-returns-then-ne : goal.equal_rows-returns-then-ne
-equal_rows-returns-then-ne t c =
-    let differ = runs_tell c.args.one.now c.args.other.now c.requires c.loop-from.from c.run_from-run.result c.run_from.result c.run_from-run.ensures c.run_from.ensures (sym c.ne.ensures ∙ c.if-ne.true) in
-    (λ e. absurd (false≢true e), λ same. absurd (differ same))
+pub equal_rows-returns-then-not-equal_marks : goal.equal_rows-returns-then-not-equal_marks
+equal_rows-returns-then-not-equal_marks t c = marks_tell c.args.one.now c.args.other.now c.requires c.equal_marks.result c.equal_marks.ensures c.if-not-equal_marks.true
 
 pub equal_rows-equal_valid_rows-requires : goal.equal_rows-equal_valid_rows-requires
 equal_rows-equal_valid_rows-requires t c =
@@ -21,7 +19,7 @@ equal_rows-equal_valid_rows-requires t c =
     let other = c.args.other.now in
     let from = c.loop-from.from in
     let run = c.run_from-run.result in
-    let valid = both_valid one other c.requires from run c.run_from.result c.run_from-run.ensures c.run_from.ensures (sym c.ne.ensures ∙ c.if-ne.false) c.if-run.true in
+    let valid = both_valid one other c.requires (c.equal_marks.ensures.0 c.if-not-equal_marks.false) from run c.run_from-run.ensures c.if-run.true in
     let span = part_span one other c.requires from run.rows c.part.result c.part-then-run.result c.part.ensures c.part-then-run.ensures in (
       omega (arith, span, c.decreases),
       (
@@ -48,7 +46,7 @@ equal_rows-loop-from-preserved t c =
             | equal_rows-else-run-via-then-run+else-not-equal_valid_rows w ↦
                 part_more one other c.requires from run.rows w.part.result w.part-then-run.result w.part.ensures w.part-then-run.ensures (w.equal_valid_rows.ensures.0 w.if-not-equal_valid_rows.false) c.loop-from.invariant.same
             | equal_rows-else-run-via-else-run w ↦
-                null_more one other c.requires from run c.run_from.result c.run_from-run.ensures c.run_from.ensures (sym c.ne.ensures ∙ c.if-ne.false) w.if-run.false c.loop-from.invariant.same
+                null_more one other c.requires (c.equal_marks.ensures.0 c.if-not-equal_marks.false) from run c.run_from-run.ensures w.if-run.false c.loop-from.invariant.same
           ];
     }
 
