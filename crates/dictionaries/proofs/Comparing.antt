@@ -1,14 +1,13 @@
 -- What the code's comparisons tell of windows of recordings.
-use Rattle.std.proofs.Common.{◌≡◌, ℕ, ◌+◌, ◌-◌, ◌*◌, add-mul, ◌<◌, ◌≤◌, Bool, true, false, ◌&&◌, ◌↔◌, eqb, nat_eq, ◌⊎◌, inl, inr, List, [], ◌∷◌, map, length, Some, Option, add-zero, sym, refl, ap, ap₂, ◌∙◌, subst, arith}
+use Rattle.std.proofs.Common.{◌≡◌, ℕ, ◌+◌, ◌-◌, ◌<◌, ◌≤◌, Bool, true, false, ◌&&◌, ◌↔◌, eqb, nat_eq, ◌⊎◌, inl, inr, List, [], ◌∷◌, map, length, Some, Option, add-zero, sym, refl, ap, ap₂, ◌∙◌, subst, arith}
 use Rattle.std.specs.List.{range_with_len, list_all, fold}
 use Rattle.std.specs.Option.{option_eq}
 use Rattle.layout.specs.contracts.number.WidthPartialEq.TheImpl.{eq-value}
 use Rattle.std.specs.Cmp.Lexicographic.{same_text, other_text}
 use lib.Pointwise.{pointwise}
-use Rattle.std.proofs.lemmas.Nat.{mul-le}
 use Rattle.std.proofs.lemmas.Bool.{eqb-true, eq-eqb, false≢true}
 use Rattle.layout.specs.declared.bit.BitSlice.{BitSlice}
-use Rattle.layout.specs.declared.fault.Refusal.TheVariants.{Nesting, Offset}
+use Rattle.layout.specs.declared.fault.Refusal.TheVariants.{Nesting}
 use Rattle.layout.specs.declared.kind.Kind.{Kind}
 use Rattle.layout.specs.declared.kind.Kind.TheVariants.{Null, Boolean, Fixed, Bytes32, Bytes64, List32, List64, Struct, Dictionary}
 use Rattle.layout.specs.declared.node.Node.{Node}
@@ -17,16 +16,13 @@ use Rattle.layout.specs.declared.number.Width.TheVariants.{Four, Eight}
 use Rattle.layout.specs.Bits.{bytes_for}
 use Rattle.layout.specs.Kinds.{kind_number, offset_width, has_data}
 use Rattle.layout.specs.Nodes.{end_of}
-use Rattle.layout.specs.Lists.{cut}
-use Rattle.layout.specs.Numbers.{wide, unle}
-use Rattle.layout.specs.Rows.{slot_at, offset_at, count_at}
+use Rattle.layout.specs.Numbers.{wide}
+use Rattle.layout.specs.Rows.{offset_at, count_at}
 use Rattle.layout.specs.Rules.{Is, HasOffsets, Nested}
 use Rattle.layout.specs.Shown.{Shape}
 use Rattle.layout.specs.Trees.{tree_at}
 use Rattle.layout.specs.Windows as layout
 use Rattle.layout.proofs.Facts.{one_kind}
-use Rattle.layout.proofs.Lists.{cut_cut}
-use Rattle.layout.proofs.Tests.{natural-number}
 use Rattle.layout.specs.Windows.{shape_of, value_in, top_in, shape_in, rows_at, first_rows, passed_to}
 use Rattle.recording.specs.declared.node.NodeRef.{NodeRef}
 use Rattle.recording.specs.declared.windows.Windows.{Windows}
@@ -37,11 +33,12 @@ use Rattle.recording.specs.NodeRefs.{table_of, run_of, numbers_of}
 use Rattle.recording.specs.Passing.{IsPassed, ArePassedEach, windows_left}
 use Rattle.recording.specs.Places.{Place, children_of}
 use Rattle.recording.specs.Windows.{window_in}
+use Rattle.recording.proofs.Contents.{offset_is}
 use Rattle.recording.proofs.WindowFacts.{inside_of}
 use Rattle.recording.proofs.Reading.{rules_at, one_width}
 use Rattle.recording.proofs.Below.{sides_are}
 use Rattle.dictionaries.specs.Rows.{same_nodes, Alike, SameRows, SameMarks, Valid, slots_in, SameCounts, strings_in, elements_in, Pairwise}
-use Rattle.dictionaries.specs.Windows.{SameParts, TellsCounts, same_byte, offset_in, count_in}
+use Rattle.dictionaries.specs.Windows.{SameParts, TellsCounts, same_byte, count_in}
 use Rattle.dictionaries.proofs.Marks.{bits_told}
 use Rattle.dictionaries.proofs.Runs.{part_of, marks_of_rows, run_of_both, valid_rows, part_alike, null_rows, part_rows, rows_part, rows_more}
 use Rattle.dictionaries.proofs.Shapes.{all_at, all_from, same_shapes, same_spans, one_shape_kind, one_shape_size, plain_kind, alike_elements, alike_parts}
@@ -87,18 +84,8 @@ module _ (v : Window) (bs : List ℕ) (w : Width) (has : HasOffsets (numbers_of 
   abbrev x : ℕ
   x = wide w
 
-  offset_is : (r : ℕ) → r ≤ v.rows → 0 < v.rows → offset_in bs x r ≡ offset_at (run_of v.node) x m (v.first + r)
-  offset_is r l some =
-      let rising = rules_at v.node Offset has.0 w has.1 has.2 in
-      let less : (r + 1) * x ≤ (v.rows + 1) * x = mul-le (r + 1) x (v.rows + 1) x (omega arith) (omega arith) in
-      let next : (r + 1) * x ≡ r * x + x = omega arith in
-      let place : (m.from + (v.first + r)) * x ≡ (m.from + v.first) * x + r * x = ap (λ (y : ℕ). y * x) (omega arith) ∙ add-mul (m.from + v.first) r x in
-      ap (λ (bs : List ℕ). offset_in bs x r) is
-      ∙ ap unle (cut_cut (r * x) x (m.slots + (m.from + v.first) * x) ((v.rows + 1) * x) (run_of v.node) (omega arith) ∙ ap (λ (q : ℕ). cut q x (run_of v.node)) (omega arith))
-      ∙ sym (natural-number (slot_at (run_of v.node) x m (v.first + r)) (rising.naturals (omega (arith, v.inside)) (v.first + r) (omega (arith, v.inside))))
-
   count_is : (r : ℕ) → r < v.rows → count_in bs x r ≡ count_at (run_of v.node) x m (v.first + r)
-  count_is r l = ap₂ ◌-◌ (offset_is (r + 1) (omega arith) (omega arith) ∙ ap (offset_at (run_of v.node) x m) (omega arith)) (offset_is r (omega arith) (omega arith))
+  count_is r l = ap₂ ◌-◌ (offset_is v bs w has is (r + 1) (omega arith) (omega arith) ∙ ap (offset_at (run_of v.node) x m) (omega arith)) (offset_is v bs w has is r (omega arith) (omega arith))
 
 -- row r has as many by both
 abbrev pub as_many : List ℕ → List ℕ → ℕ → ℕ → Bool

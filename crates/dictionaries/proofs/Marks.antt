@@ -1,5 +1,5 @@
 -- Which rows of two windows are valid.
-use Rattle.std.proofs.Common.{◌≡◌, ℕ, zero, suc, ◌+◌, ◌<◌, Bool, true, false, cond, ◌↔◌, eqb, None, sym, refl, ◌∙◌, arith}
+use Rattle.std.proofs.Common.{◌≡◌, ℕ, zero, suc, ◌+◌, ◌<◌, Bool, true, false, cond, ◌↔◌, eqb, sym, refl, ◌∙◌, arith}
 use Rattle.std.specs.List.{range_with_len, list_all}
 use Rattle.std.proofs.lemmas.Bool.{eqb-true, eq-eqb}
 use Rattle.layout.specs.declared.bit.BitSlice.{BitSlice}
@@ -15,7 +15,7 @@ use Rattle.layout.proofs.Bits.{zeros_first}
 use Rattle.layout.proofs.Lists.{get_or_rows, length-rows}
 use Rattle.laws.proofs.Bits.{no_zeros}
 use Rattle.recording.specs.declared.window.Window.{Window}
-use Rattle.recording.specs.Contents.{valid_at, TellValid, AreMarks}
+use Rattle.recording.specs.Contents.{valid_at, NoMarks, AreMarks}
 use Rattle.recording.specs.NodeRefs.{numbers_of}
 use Rattle.recording.specs.Windows.{window_in}
 use Rattle.recording.proofs.Reading.{rules_at}
@@ -69,17 +69,17 @@ module _ (one other : Window) (shapes : shape_in (window_in one) ≡ shape_in (w
   kind_of = rules_at one.node KindOrSize
 
   -- only one has a bitmap
-  pub marks_of_one : (a : BitSlice) (n : ℕ) → AreMarks one a → TellValid other None → n ≡ zeros (bits_in a) → (eqb n 0 ≡ true) ↔ same_marks one other
+  pub marks_of_one : (a : BitSlice) (n : ℕ) → AreMarks one a → NoMarks other → n ≡ zeros (bits_in a) → (eqb n 0 ≡ true) ↔ same_marks one other
   marks_of_one a n mine none e =
       let told = ones_told a n e in
-      let valid : (r : ℕ) → r < other.rows → valid_at (window_in other) r ≡ true = λ r l. none kind_of.kind (others_are kind_of.kind kind_of.is) r l ∙ mine.kind kind_of.kind kind_of.is in (
+      let valid : (r : ℕ) → r < other.rows → valid_at (window_in other) r ≡ true = λ r l. none.each kind_of.kind (others_are kind_of.kind kind_of.is) r l ∙ mine.kind kind_of.kind kind_of.is in (
         λ yes r l. sym (mine.each r l) ∙ told.0 yes r (omega (arith, mine.count)) ∙ sym (valid r (omega arith)),
         λ same. told.1 (λ r l. mine.each r (omega (arith, mine.count)) ∙ same r (omega (arith, mine.count)) ∙ valid r (omega (arith, mine.count))),
       )
 
-  pub marks_of_none : TellValid one None → TellValid other None → same_marks one other
+  pub marks_of_none : NoMarks one → NoMarks other → same_marks one other
   marks_of_none mine others r l =
-      mine kind_of.kind kind_of.is r l ∙ sym (others kind_of.kind (others_are kind_of.kind kind_of.is) r (omega arith))
+      mine.each kind_of.kind kind_of.is r l ∙ sym (others.each kind_of.kind (others_are kind_of.kind kind_of.is) r (omega arith))
 
 pub marks_turned : (one other : Window) (t : Bool) → one.rows ≡ other.rows → (t ≡ true) ↔ same_marks other one → (t ≡ true) ↔ same_marks one other
 marks_turned one other t rows told = (λ yes r l. sym (told.0 yes r (omega arith)), λ same. told.1 (λ r l. sym (same r (omega arith))))

@@ -268,7 +268,7 @@ counts_total v w k x g h e is at o same =
 -- ---- byte strings
 
 -- no offset passes the data
-reach_is : (k : Kind) (ns : List Node) (i : ℕ) → has_data k ≡ true → reach k ns i ≡ (node_at ns i).extent
+pub reach_is : (k : Kind) (ns : List Node) (i : ℕ) → has_data k ≡ true → reach k ns i ≡ (node_at ns i).extent
 reach_is Null ns i d = cc
 reach_is Boolean ns i d = cc
 reach_is Fixed ns i d = cc

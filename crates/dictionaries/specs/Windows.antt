@@ -6,10 +6,11 @@ use Rattle.layout.specs.BitSlices.{bits_in}
 use Rattle.layout.specs.declared.kind.Kind.TheVariants.{Struct}
 use Rattle.layout.specs.declared.number.Width.{Width}
 use Rattle.layout.specs.Lists.{cut}
-use Rattle.layout.specs.Numbers.{wide, unle}
+use Rattle.layout.specs.Numbers.{wide}
 use Rattle.layout.specs.Rules.{HasOffsets}
 use Rattle.layout.specs.Windows.{passed_to}
 use Rattle.recording.specs.declared.window.Window.{Window}
+use Rattle.recording.specs.Contents.{offset_in}
 use Rattle.recording.specs.NodeRefs.{numbers_of}
 use Rattle.recording.specs.Places.{Place, children_of}
 use Rattle.recording.specs.Windows.{window_in}
@@ -20,10 +21,7 @@ abbrev pub SameParts : Window → Window → Type 0
 SameParts one other =
     Pairwise SameRows (map (λ (p : Place). passed_to Struct (window_in one) p.1) (children_of one.node)) (map (λ (p : Place). passed_to Struct (window_in other) p.1) (children_of other.node))
 
--- what a list of offsets of x bytes says of row r: where it begins, and how many it has
-abbrev pub offset_in : List ℕ → ℕ → ℕ → ℕ
-offset_in bs x r = unle (cut (r * x) x bs)
-
+-- how many row r has by a list of offsets of x bytes
 abbrev pub count_in : List ℕ → ℕ → ℕ → ℕ
 count_in bs x r = offset_in bs x (r + 1) - offset_in bs x r
 

@@ -8,11 +8,12 @@ ghost use Rattle.layout.specs.Numbers.{wide};
 ghost use Rattle.layout.specs.Rules.{Is, HasOffsets};
 ghost use Rattle.layout.specs.Trees.{tree_at};
 ghost use Rattle.layout.specs.Windows.{shape_of, met_in, tree_in, shown_in};
+ghost use Rattle.recording.specs.Contents.{offset_in};
 ghost use Rattle.recording.specs.NodeRefs.{table_of, run_of, numbers_of};
 ghost use Rattle.recording.specs.Windows.{window_in};
 ghost use Rattle.dictionaries.specs.Comparing.{comparison};
 ghost use Rattle.dictionaries.specs.Rows.{Alike, SameRows, SameMarks, Valid, uses_size, same_node, same_nodes};
-ghost use Rattle.dictionaries.specs.Windows.{SameParts, TellsCounts, same_byte, offset_in, count_in};
+ghost use Rattle.dictionaries.specs.Windows.{SameParts, TellsCounts, same_byte, count_in};
 
 use layout::{BitSlice, Kind, Width, bytes_for, read};
 use recording::{NodeRef, Window};

@@ -144,7 +144,7 @@ own_fits bs n a c k e l m = (omega arith, omega (arith, nulls_few bs (bitmap_of 
 mutual
   unfolding fields shown
 
-  fields_fit : (bs : List ℕ) (t : Tree) (a c : ℕ) → Opened bs t → a + c ≤ rows_of t → FieldsFit (fields (shown bs t a c))
+  pub fields_fit : (bs : List ℕ) (t : Tree) (a c : ℕ) → Opened bs t → a + c ≤ rows_of t → FieldsFit (fields (shown bs t a c))
   fields_fit bs (Tree.nulls n) a c g l = (omega arith, omega arith, tt)
   fields_fit bs (Tree.bools n) a c g l = (let o = own_fits bs n a c _ (length-rows c (λ r. bit_at (drop n.slots bs) (n.from + a + r))) g.0.limit l in (o.0, o.1, tt))
   fields_fit bs (Tree.fixed n) a c g l = (let o = own_fits bs n a c _ (length-rows c (λ r. slot_at bs n.size n (a + r))) g.0.limit l in (o.0, o.1, tt))
@@ -160,7 +160,7 @@ mutual
   fields_fit_all bs (Forest.more t f) n a c g h l =
       fields_add (fields (shown bs t a c)) (fields_all (shown_all bs f a c)) (fields_fit bs t a c g.0 (omega (arith, h.0))) (fields_fit_all bs f n a c g.1 h.1 l)
 
-side_fields : (ws : List Window) → EachInside ws → FieldsFit (fields_all (shown_side ws))
+pub side_fields : (ws : List Window) → EachInside ws → FieldsFit (fields_all (shown_side ws))
 unfolding fields
 side_fields [] g = tt
 side_fields (w ∷ ws) g =

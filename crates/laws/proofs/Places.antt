@@ -1,5 +1,5 @@
 -- What is made and what is copied, by its places.
-use Rattle.std.proofs.Common.{◌≡◌, ℕ, zero, suc, ◌+◌, ◌-◌, ◌*◌, ◌/◌, ◌%◌, ◌^◌, ◌<◌, ◌≤◌, Bool, true, false, cond, eqb, ◌⊎◌, List, [], ◌∷◌, ◌++◌, length, get_or, drop, sym, refl, ap, ◌∙◌, ap₂, inl, inr, le_of_suc-le-suc, not-suc-le-zero, add-zero, suc-mul, pow-suc, arith, length-append, get_or-drop, get_or-take}
+use Rattle.std.proofs.Common.{◌≡◌, ℕ, zero, suc, ◌+◌, ◌-◌, ◌*◌, ◌/◌, ◌%◌, ◌^◌, ◌<◌, ◌≤◌, Bool, true, false, cond, eqb, ◌⊎◌, List, [], ◌∷◌, ◌++◌, length, get_or, drop, sym, refl, subst, ap, ◌∙◌, ap₂, inl, inr, le_of_suc-le-suc, not-suc-le-zero, add-zero, suc-mul, pow-suc, arith, length-append, get_or-drop, get_or-take}
 use native.Mathlib.Nat.{pow-succ', div-div-eq-div-mul, zero-div}
 use Rattle.std.proofs.lemmas.Bool.{eq-eqb, ne_eqb}
 use Rattle.layout.specs.declared.node.Node.{Node}
@@ -82,7 +82,7 @@ below_at k (b ∷ bs) zero p h = h.0
 below_at k (b ∷ bs) (suc i) p h = below_at k bs i p h.1
 
 -- whole bytes of bits are the bytes
-module _ (bs : List ℕ) (a q : ℕ) (z : a % 8 ≡ 0) (g : Below 256 bs) where
+module _ (bs : List ℕ) (a q : ℕ) (z : a % 8 ≡ 0) (g : Below 256 (cut (a / 8) q bs)) where
   one_byte : (i : ℕ) → i < q → byte_of (cut (8 * i) 8 (rows (8 * q) (λ r. bit_at bs (a + r)))) ≡ get_or bs (a / 8 + i) 0
   one_byte i l =
       ap byte_of
@@ -92,7 +92,7 @@ module _ (bs : List ℕ) (a q : ℕ) (z : a % 8 ≡ 0) (g : Below 256 bs) where
       let d : (a + (8 * i + j)) / 8 ≡ a / 8 + i = omega arith in
       let e : (a + (8 * i + j)) % 8 ≡ j = omega arith in
       ap₂ (λ (x y : ℕ). bit_of (get_or bs x 0) y) d e))
-      ∙ byte_is 8 (get_or bs (a / 8 + i) 0) (below_at 256 bs (a / 8 + i) (omega arith) g)
+      ∙ byte_is 8 (get_or bs (a / 8 + i) 0) (subst (λ (x : ℕ). x < 256) (get_or_cut (a / 8) q bs i 0 l) (below_at 256 (cut (a / 8) q bs) i (omega arith) g))
 
   whole_bytes : a / 8 + q ≤ length bs → pack (rows (8 * q) (λ r. bit_at bs (a + r))) ≡ cut (a / 8) q bs
   whole_bytes l =

@@ -156,7 +156,7 @@ items_fit bs w n a c l h r m =
     let p : suc k * w ≤ (n.from + n.rows) * w = mul-le-mul_right w (omega arith) in
     length_cut (n.slots + k * w) w bs (omega (arith, suc-mul k w))
 
-strings_fit : (bs : List ℕ) (w : ℕ) (n : Node) (h : Rising bs w n n.extent) → n.«data» + n.extent ≤ length bs → (a c : ℕ) → a + c ≤ n.rows
+pub strings_fit : (bs : List ℕ) (w : ℕ) (n : Node) (h : Rising bs w n n.extent) → n.«data» + n.extent ≤ length bs → (a c : ℕ) → a + c ≤ n.rows
     → lengths (rows c (λ r. string_at bs w n (a + r))) ≡ rows c (λ r. count_at bs w n (a + r))
 strings_fit bs w n h d a c l =
     map_rows length c (λ r. string_at bs w n (a + r))

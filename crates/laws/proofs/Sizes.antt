@@ -19,7 +19,7 @@ use Rattle.laws.proofs.Says.{passed}
 use Rattle.laws.proofs.Places.{bits_made, slots_joined, strings_joined}
 use Rattle.laws.proofs.Round.{length-offsets}
 
-length-le_all : (w : ℕ) (ns : List ℕ) → length (le_all w ns) ≡ length ns * w
+pub length-le_all : (w : ℕ) (ns : List ℕ) → length (le_all w ns) ≡ length ns * w
 length-le_all w [] = omega arith
 length-le_all w (n ∷ ns) = simp length-append (omega (arith, length-le w n, length-le_all w ns, suc-mul (length ns) w))
 

@@ -17,7 +17,7 @@ pub record BitsMade (bs : List ℕ) (a c : ℕ) : Type 0 where
   pub size : length (bit_bytes (bits_at bs a c)) ≡ bytes_for c
   pub bit : (r : ℕ) → r < c → bit_at (bit_bytes (bits_at bs a c)) r ≡ bit_at bs (a + r)
   pub clear : 0 < a % 8 → (r : ℕ) → c ≤ r → bit_at (bit_bytes (bits_at bs a c)) r ≡ false
-  pub unchanged : a % 8 ≡ 0 → Below 256 bs → a / 8 + bytes_for c ≤ length bs → bit_bytes (bits_at bs a c) ≡ cut (a / 8) (bytes_for c) bs
+  pub unchanged : a % 8 ≡ 0 → Below 256 (cut (a / 8) (bytes_for c) bs) → a / 8 + bytes_for c ≤ length bs → bit_bytes (bits_at bs a c) ≡ cut (a / 8) (bytes_for c) bs
 
 -- rows a .. a + c - 1 of a node: values and keys are one part of the bytes, offsets are the old ones each less the first, and the byte strings
 -- are the data between the first offset and the last

@@ -41,7 +41,7 @@ module _ (w : Window) where
   abbrev v : layout.Window
   v = window_in w
 
-  nested : Nested ns i
+  pub nested : Nested ns i
   nested = rules_at w.node Nesting
 
   -- they lie inside their nodes' rows
@@ -56,7 +56,7 @@ module _ (w : Window) where
   -- ---- what they show
 
   -- the children by their numbers
-  numbered : (k : Kind) → map (λ (p : Place). passed_to k v p.1) (children_of w.node) ≡ map (passed_to k v) nested.children
+  pub numbered : (k : Kind) → map (λ (p : Place). passed_to k v p.1) (children_of w.node) ≡ map (passed_to k v) nested.children
   numbered k =
       ap (map (λ (p : Place). passed_to k v p.1)) (sides_are w.node.recording nested.children (i + 1) (end_of ns i) nested.fill)
       ∙ map_twice (λ (p : Place). passed_to k v p.1) (λ (c : ℕ). (w.node.recording, c)) nested.children

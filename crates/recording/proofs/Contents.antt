@@ -3,10 +3,10 @@ use Rattle.std.proofs.lemmas.Nat.{mul-le}
 use Rattle.std.proofs.Common.{◌≡◌, ℕ, zero, suc, ◌+◌, ◌-◌, ◌*◌, ◌<◌, ◌≤◌, Bool, true, false, not, cond, ◌⊎◌, List, [], ◌∷◌, length, drop, Some, None, Option, sym, refl, ap, ap₂, ◌∙◌, inl, inr, subst, add-mul, arith}
 use Rattle.std.proofs.Math.Bool.{beq}
 use Rattle.std.specs.List.{take_while, range_with_len}
-use Rattle.std.proofs.lemmas.Bool.{cases_eq, eq-eqb, ne_eqb}
+use Rattle.std.proofs.lemmas.Bool.{false≢true, cases_eq, eq-eqb, ne_eqb}
 use Rattle.std.proofs.lemmas.List.Sums.{take_while-cons}
 use Rattle.layout.specs.declared.bit.BitSlice.{BitSlice}
-use Rattle.layout.specs.declared.fault.Refusal.TheVariants.{KindOrSize, Nesting, Place}
+use Rattle.layout.specs.declared.fault.Refusal.TheVariants.{KindOrSize, Nesting, Place, Offset}
 use Rattle.layout.specs.declared.kind.Kind.{Kind}
 use Rattle.layout.specs.declared.kind.Kind.TheVariants.{Null, Boolean, Fixed, Bytes32, Bytes64, List32, List64, Struct, Dictionary}
 use Rattle.layout.specs.declared.node.Node.{Node}
@@ -16,20 +16,21 @@ use Rattle.layout.specs.BitSlices.{bit_in, IsPart}
 use Rattle.layout.specs.Kinds.{has_bitmap}
 use Rattle.layout.specs.Lists.{cut}
 use Rattle.layout.specs.Nodes.{bitmap_of}
-use Rattle.layout.specs.Numbers.{wide}
-use Rattle.layout.specs.Rows.{mark_in, mark_at}
+use Rattle.layout.specs.Numbers.{wide, unle}
+use Rattle.layout.specs.Rows.{mark_in, mark_at, slot_at, offset_at}
 use Rattle.layout.specs.Rules.{Is, HasOffsets, ChildrenFit, Placed}
 use Rattle.layout.specs.Windows.{passed_count}
 use Rattle.layout.proofs.Facts.{one_kind, fixed_lie, keys_lie, offsets_lie}
 use Rattle.layout.proofs.Kids.{one_child}
-use Rattle.layout.proofs.Lists.{length_cut}
+use Rattle.layout.proofs.Lists.{length_cut, cut_cut}
+use Rattle.layout.proofs.Tests.{natural-number}
 use Rattle.recording.specs.declared.node.NodeRef.{NodeRef}
 use Rattle.recording.specs.declared.offsets.Offsets.{Offsets}
 use Rattle.recording.specs.declared.window.Window.{Window}
-use Rattle.recording.specs.Contents.{valid_at, IsRun, TellValid, slots_of, AreOffsets, AreStrings}
+use Rattle.recording.specs.Contents.{valid_at, IsRun, AreMarks, NoMarks, offset_in, offset_slots, slots_of, AreOffsets, AreStrings}
 use Rattle.recording.specs.NodeRefs.{table_of, run_of, numbers_of, IsNode}
 use Rattle.recording.specs.Passing.{IsChild, AreContents}
-use Rattle.recording.specs.RowBits.{AreMarks}
+use Rattle.recording.specs.RowBits as bits
 use Rattle.recording.specs.Windows.{window_in, HasStrings}
 use Rattle.recording.proofs.Reading.{rules_at, one_width, few, placed, has_offsets}
 use Rattle.recording.proofs.WindowFacts.{string_ends}
@@ -86,17 +87,22 @@ module _ (w : Window) where
   n = numbers_of w.node
 
   -- validity goes by the bits, but for a Null
-  pub valid_null : (k : Kind) → Is n k → has_bitmap k ≡ false → TellValid w None
-  valid_null Null is e j at r l =
-      ap (λ (b : Bool). cond b false (mark_at (run_of w.node) n (w.first + r))) (eq-eqb n.kind 0 is) ∙ ap has_bitmap {x = Null} {y = j} (one_kind n Null j is at)
-  valid_null Boolean is e j at r l = cc
-  valid_null Fixed is e j at r l = cc
-  valid_null Bytes32 is e j at r l = cc
-  valid_null Bytes64 is e j at r l = cc
-  valid_null List32 is e j at r l = cc
-  valid_null List64 is e j at r l = cc
-  valid_null Struct is e j at r l = cc
-  valid_null Dictionary is e j at r l = cc
+  null_each : (k : Kind) → Is n k → has_bitmap k ≡ false → (r : ℕ) → valid_at (window_in w) r ≡ false
+  null_each Null is e r = ap (λ (b : Bool). cond b false (mark_at (run_of w.node) n (w.first + r))) (eq-eqb n.kind 0 is)
+  null_each Boolean is e r = cc
+  null_each Fixed is e r = cc
+  null_each Bytes32 is e r = cc
+  null_each Bytes64 is e r = cc
+  null_each List32 is e r = cc
+  null_each List64 is e r = cc
+  null_each Struct is e r = cc
+  null_each Dictionary is e r = cc
+
+  pub valid_null : (k : Kind) → Is n k → has_bitmap k ≡ false → NoMarks w
+  valid_null k is e = record {
+    bitmap = λ j at t. absurd (false≢true (sym e ∙ ap has_bitmap (one_kind n k j is at) ∙ t));
+    each = λ j at r l. null_each k is e r ∙ sym e ∙ ap has_bitmap (one_kind n k j is at);
+  }
 
   not_null : (k : Kind) → Is n k → has_bitmap k ≡ true → n.kind ≡ 0 → ⊥
   not_null Null is e z = cc
@@ -115,11 +121,18 @@ module _ (w : Window) where
         ap (λ (b : Bool). cond b false (mark_at (run_of w.node) n (w.first + r))) (ne_eqb n.kind 0 (not_null k is e))
         ∙ ap (λ (o : Option ℕ). mark_in (run_of w.node) o (n.from + (w.first + r))) at
 
-    pub valid_unmarked : AreMarks w.node None → TellValid w None
-    valid_unmarked none j at r l = valid_bit None none r ∙ sym e ∙ ap has_bitmap (one_kind n k j is at)
+    pub valid_unmarked : bits.AreMarks w.node None → NoMarks w
+    valid_unmarked none = record {
+      bitmap = λ j at t. none;
+      each = λ j at r l. valid_bit None none r ∙ sym e ∙ ap has_bitmap (one_kind n k j is at);
+    }
 
-    pub valid_marked : (all part : BitSlice) → AreMarks w.node (Some all) → IsPart all w.first w.rows part → TellValid w (Some part)
+    pub valid_marked : (all part : BitSlice) → bits.AreMarks w.node (Some all) → IsPart all w.first w.rows part → AreMarks w part
     valid_marked all part (p, place, at) (bytes, first, rows) = record {
+      place = p;
+      bitmap = place;
+      bytes = bytes ∙ at.0;
+      first = omega (arith, first, at.1);
       count = rows;
       each = λ r l.
           ap (λ (bs : List ℕ). bit_at bs (part.first + r)) (bytes ∙ at.0)
@@ -131,15 +144,15 @@ module _ (w : Window) where
 -- ---- runs of a window
 
 module _ (w : Window) (from : ℕ) (here : from < w.rows) where
-  pub run_unmarked : TellValid w None → (k : Kind) → Is (numbers_of w.node) k → IsRun (window_in w) from (record { valid = has_bitmap k; rows = w.rows - from })
+  pub run_unmarked : NoMarks w → (k : Kind) → Is (numbers_of w.node) k → IsRun (window_in w) from (record { valid = has_bitmap k; rows = w.rows - from })
   run_unmarked valid k is = record {
     some = omega arith;
     within = omega arith;
-    alike = λ r l. valid k is (from + r) (omega arith);
+    alike = λ r l. valid.each k is (from + r) (omega arith);
     whole = λ l. absurd (omega arith);
   }
 
-  pub run_marked : (all some : BitSlice) → TellValid w (Some all) → IsPart all from (w.rows - from) some
+  pub run_marked : (all some : BitSlice) → AreMarks w all → IsPart all from (w.rows - from) some
       → (valid : Bool) (rows : ℕ) → valid ≡ bit_in some 0 → rows ≡ length (take_while (λ i. beq (bit_in some i) valid) (range_with_len 0 some.len))
       → IsRun (window_in w) from (record { valid = valid; rows = rows })
   run_marked all some marks part valid rows first count =
@@ -251,3 +264,23 @@ next_child n child k is one (rec, at) =
     let t = rules_at n Nesting in
     let end = one_child (table_of n) n.index t (one (length t.children) (t.count k is)) in
     (rec, (([], sym at), omega (arith, at, end.0)))
+
+-- ---- offsets as they stand
+
+-- those of a window that has rows are the node's
+module _ (v : Window) (bs : List ℕ) (w : Width) (has : HasOffsets (numbers_of v.node) w) (is : bs ≡ offset_slots (wide w) v) where
+  abbrev m : Node
+  m = numbers_of v.node
+
+  abbrev x : ℕ
+  x = wide w
+
+  pub offset_is : (r : ℕ) → r ≤ v.rows → 0 < v.rows → offset_in bs x r ≡ offset_at (run_of v.node) x m (v.first + r)
+  offset_is r l some =
+      let rising = rules_at v.node Offset has.0 w has.1 has.2 in
+      let less : (r + 1) * x ≤ (v.rows + 1) * x = mul-le (r + 1) x (v.rows + 1) x (omega arith) (omega arith) in
+      let next : (r + 1) * x ≡ r * x + x = omega arith in
+      let place : (m.from + (v.first + r)) * x ≡ (m.from + v.first) * x + r * x = ap (λ (y : ℕ). y * x) (omega arith) ∙ add-mul (m.from + v.first) r x in
+      ap (λ (bs : List ℕ). offset_in bs x r) is
+      ∙ ap unle (cut_cut (r * x) x (m.slots + (m.from + v.first) * x) ((v.rows + 1) * x) (run_of v.node) (omega arith) ∙ ap (λ (q : ℕ). cut q x (run_of v.node)) (omega arith))
+      ∙ sym (natural-number (slot_at (run_of v.node) x m (v.first + r)) (rising.naturals (omega (arith, v.inside)) (v.first + r) (omega (arith, v.inside))))

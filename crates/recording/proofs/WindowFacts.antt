@@ -51,12 +51,12 @@ nulls_of_tree List64 bs n a c f = refl
 nulls_of_tree Struct bs n a c f = refl
 nulls_of_tree Dictionary bs n a c f = refl
 
-marks_null : (bs : List ℕ) (o : Option ℕ) (a c : ℕ) → nulls_in bs o a c ≡ null_count (marks_in bs o a c)
+pub marks_null : (bs : List ℕ) (o : Option ℕ) (a c : ℕ) → nulls_in bs o a c ≡ null_count (marks_in bs o a c)
 marks_null bs None a c = refl
 marks_null bs (Some p) a c = refl
 
 -- what is counted is what is shown
-nulls_shown : (n : NodeRef) (k : Kind) → Is (numbers_of n) k → (a c : ℕ) → nulls_between k (run_of n) (numbers_of n) a c ≡ (own_field (shown (run_of n) (tree_at (table_of n) n.index) a c)).nulls
+pub nulls_shown : (n : NodeRef) (k : Kind) → Is (numbers_of n) k → (a c : ℕ) → nulls_between k (run_of n) (numbers_of n) a c ≡ (own_field (shown (run_of n) (tree_at (table_of n) n.index) a c)).nulls
 unfolding nulls_as
 nulls_shown n k is a c =
     let m = numbers_of n in

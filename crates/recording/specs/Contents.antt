@@ -1,5 +1,5 @@
 -- What the rows of a window hold, one after another.
-use Rattle.std.specs.Prelude.{◌≡◌, ℕ, ◌+◌, ◌*◌, ◌<◌, ◌≤◌, Bool, true, false, not, cond, List, Some, None, Option, ◌==◌}
+use Rattle.std.specs.Prelude.{◌≡◌, ℕ, ◌+◌, ◌*◌, ◌<◌, ◌≤◌, Bool, true, false, not, cond, List, drop, Some, None, Option, ◌==◌}
 use Rattle.layout.specs.declared.bit.BitSlice.{BitSlice}
 use Rattle.layout.specs.declared.kind.Kind.{Kind}
 use Rattle.layout.specs.declared.kind.Kind.TheVariants.{Null}
@@ -7,7 +7,8 @@ use Rattle.layout.specs.declared.number.Width.{Width}
 use Rattle.layout.specs.BitSlices.{bit_in}
 use Rattle.layout.specs.Kinds.{kind_number, has_bitmap}
 use Rattle.layout.specs.Lists.{cut}
-use Rattle.layout.specs.Numbers.{wide}
+use Rattle.layout.specs.Nodes.{bitmap_of}
+use Rattle.layout.specs.Numbers.{wide, unle}
 use Rattle.layout.specs.Rows.{mark_at, flag_at}
 use Rattle.layout.specs.Rules.{Is, HasOffsets}
 use Rattle.layout.specs.Windows as layout
@@ -28,19 +29,29 @@ pub record IsRun (w : layout.Window) (from : ℕ) (run : Run) : Type 0 where
   pub alike : (r : ℕ) → r < run.rows → valid_at w (from + r) ≡ run.valid
   pub whole : from + run.rows < w.rows → valid_at w (from + run.rows) ≡ not run.valid
 
--- a bit for each row, 1 where it is valid; a Null has none
+-- a bit for each row, 1 where it is valid, where they stand in the bitmap; a Null has none
 pub record AreMarks (w : Window) (bits : BitSlice) : Type 0 where
+  pub place : ℕ
+  pub bitmap : bitmap_of (numbers_of w.node) ≡ Some place
+  pub bytes : bits.bytes.now ≡ drop place (run_of w.node)
+  pub first : bits.first ≡ (numbers_of w.node).from + w.first
   pub count : bits.len ≡ w.rows
   pub each : (r : ℕ) → r < w.rows → bit_in bits r ≡ valid_at (window_in w) r
   pub kind : (k : Kind) → Is (numbers_of w.node) k → has_bitmap k ≡ true
 
--- those bits; without them every row is valid, but of a Null none
+-- without a bitmap every row is valid, but of a Null none
+pub record NoMarks (w : Window) : Type 0 where
+  pub bitmap : (k : Kind) → Is (numbers_of w.node) k → has_bitmap k ≡ true → bitmap_of (numbers_of w.node) ≡ None
+  pub each : (k : Kind) → Is (numbers_of w.node) k → (r : ℕ) → r < w.rows → valid_at (window_in w) r ≡ has_bitmap k
+
 abbrev pub TellValid : Window → Option BitSlice → Type 0
-TellValid w None = (k : Kind) → Is (numbers_of w.node) k → (r : ℕ) → r < w.rows → valid_at (window_in w) r ≡ has_bitmap k
+TellValid w None = NoMarks w
 TellValid w (Some bits) = AreMarks w bits
 
--- a bit for each row of a Boolean
+-- a bit for each row of a Boolean, where they stand in its slots
 pub record AreFlags (w : Window) (bits : BitSlice) : Type 0 where
+  pub bytes : bits.bytes.now ≡ drop (numbers_of w.node).slots (run_of w.node)
+  pub first : bits.first ≡ (numbers_of w.node).from + w.first
   pub count : bits.len ≡ w.rows
   pub each : (r : ℕ) → r < w.rows → bit_in bits r ≡ flag_at (run_of w.node) (numbers_of w.node) (w.first + r)
 
@@ -51,6 +62,10 @@ slots_of w = cut ((numbers_of w.node).slots + ((numbers_of w.node).from + w.firs
 -- the offsets of a Bytes or a List, one more than there are rows
 abbrev pub offset_slots : ℕ → Window → List ℕ
 offset_slots x w = cut ((numbers_of w.node).slots + ((numbers_of w.node).from + w.first) * x) ((w.rows + 1) * x) (run_of w.node)
+
+-- offset i of x bytes, as it is read
+abbrev pub offset_in : List ℕ → ℕ → ℕ → ℕ
+offset_in bs x i = unle (cut (i * x) x bs)
 
 abbrev pub AreOffsets : Window → List ℕ → Type 0
 AreOffsets v bs = (w : Width) → HasOffsets (numbers_of v.node) w → bs ≡ offset_slots (wide w) v

@@ -26,6 +26,13 @@ impl<'a> Columns<'a> {
     ghost use Rattle.recording.specs.ColumnPlaces.{column_places};
     ghost use Rattle.recording.specs.Passing.{windows_left, rows_of_places};
 
+    /// The recording that they are of.
+    pub fn recording(&self) -> Recording<'a>
+        ensures { result ≡ self.now.recording }
+    {
+        self.recording
+    }
+
     /// How many rows each has.
     pub fn rows(&self) -> u64
         ensures { result ≡ self.now.rows }

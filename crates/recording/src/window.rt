@@ -205,8 +205,8 @@ impl<'a> Window<'a> {
         }
     }
 
-    // Where what the rows of a Bytes or a List have begins in the data or the child, and how much it is.
-    fn contents(&self) -> (u64, u64)
+    /// Where what the rows of a Bytes or a List have begins in the data or the child, and how much it is.
+    pub fn contents(&self) -> (u64, u64)
         requires { (w : Width) × HasOffsets (numbers_of self.now.node) w }
         ensures { AreContents self.now result.0 result.1 }
     {

@@ -1,0 +1,17 @@
+pub mod Lists
+pub mod SentBits
+pub mod SentOffsets
+pub mod MadeBuffers
+pub mod Fields
+pub mod Sending
+pub mod Validity
+pub mod Writing
+pub mod Parts
+pub mod Counting
+pub mod Planning
+pub mod PieceBytes
+pub mod Bodies
+pub mod Batches
+pub mod Told
+pub mod PlanTold
+pub mod Shows

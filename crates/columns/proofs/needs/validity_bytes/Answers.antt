@@ -1,0 +1,31 @@
+use Rattle.std.proofs.Common.{ap, sym, refl, ◌∙◌, arith}
+use Rattle.std.proofs.lemmas.Bool.{ne_eqb}
+use Rattle.layout.specs.Bits.{bytes_for}
+use Rattle.layout.specs.Messages.{own_field}
+use Rattle.layout.specs.Windows.{shown_in}
+use Rattle.recording.specs.Windows.{window_in}
+use Rattle.recording.proofs.WindowFacts.{inside_of}
+use Rattle.columns.proofs.Counting.{validity_long, long_some, long_null, long_none}
+use Rattle.columns.proofs.Fields.{field_rows, field_fits}
+use Rattle.columns.proofs.needs.validity_bytes.Goals as goal
+
+pub returns-then-not-has_bitmap-clause-value : goal.returns-then-not-has_bitmap-clause-value
+returns-then-not-has_bitmap-clause-value c =
+    let v = c.args.window.now in
+    sym (long_null _ (own_field (shown_in (window_in v))).nulls (bytes_for v.rows) _ (validity_long v c.args.kind c.requires _ refl) (sym c.has_bitmap.ensures ∙ c.if-not-has_bitmap.true))
+
+pub returns-then-null_count-eq0-clause-value : goal.returns-then-null_count-eq0-clause-value
+returns-then-null_count-eq0-clause-value c =
+    let v = c.args.window.now in
+    sym (long_none _ _ _ _ (validity_long v c.args.kind c.requires c.null_count.result c.null_count.ensures) c.if-null_count-eq0.true)
+
+pub returns-clause-value : goal.returns-clause-value
+returns-clause-value c =
+    let v = c.args.window.now in
+    c.bytes_for.ensures ∙ ap bytes_for c.rows.ensures
+    ∙ sym (long_some _ _ _ _ (validity_long v c.args.kind c.requires c.null_count.result c.null_count.ensures) (sym c.has_bitmap.ensures ∙ c.if-not-has_bitmap.false) (ne_eqb c.null_count.result 0 c.if-null_count-eq0.false))
+
+pub returns-clause-few : goal.returns-clause-few
+returns-clause-few c =
+    let v = window_in c.args.window.now in
+    omega (arith, c.bytes_for.ensures, c.rows.ensures, field_rows v, (field_fits v (inside_of c.args.window.now)).rows)

@@ -1,0 +1,11 @@
+pub mod Lists
+pub mod Pieces
+pub mod Bits
+pub mod Buffers
+pub mod Writing
+pub mod Needs
+pub mod Plans
+pub mod BatchNeeds
+pub mod Memories
+pub mod Telling
+pub mod Laws

@@ -1,0 +1,20 @@
+//! Columns of a recording as the records of messages.
+#![tactic(auto)]
+
+mod bits;
+mod buffer;
+mod law;
+mod list;
+mod memory;
+mod message;
+mod needs;
+mod offsets;
+mod plan;
+mod record;
+mod writer;
+
+pub use law::nothing_else_counts_stands;
+pub use memory::Memory;
+pub use message::{Message, MessageKind};
+pub use plan::plan_batch;
+pub use record::{BufferEntry, BufferRecord, EncodedBuffer, FieldRecord};
