@@ -10,6 +10,10 @@ mod collecting;
 #[cfg(test)]
 mod options;
 #[cfg(test)]
+mod planning;
+#[cfg(test)]
+mod plans;
+#[cfg(test)]
 mod reading;
 #[cfg(test)]
 mod refusals;

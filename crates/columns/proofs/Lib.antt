@@ -1,5 +1,6 @@
 pub mod Lists
 pub mod SentBits
+pub mod ShiftedWords
 pub mod SentOffsets
 pub mod MadeBuffers
 pub mod Fields

@@ -68,8 +68,10 @@ impl IpcMessageWriter<'_> {
         ensures { Sends (fields_in (window_in window.now)) (pieces_in (window_in window.now)) self.old self.new }
     {
         let kind = window.node().kind();
-        self.push_node(window);
-        self.write_validity(kind, window);
+        // Of many rows the count takes long, and two parts of a message need it.
+        let nulls = window.null_count();
+        self.push_node(window, nulls);
+        self.write_validity(kind, window, nulls);
         self.write_contents(kind, window);
     }
 
@@ -123,19 +125,21 @@ impl IpcMessageWriter<'_> {
     }
 
     // Which rows are valid, of a kind that has a bitmap.
-    fn write_validity(&mut self, kind: Kind, window: &Window)
+    fn write_validity(&mut self, kind: Kind, window: &Window, nulls: u64)
         requires kind { Is (numbers_of window.now.node) kind }
+        requires nulls { nulls ≡ (own_field (shown_in (window_in window.now))).nulls }
         requires room { RoomFor [] (validity_of kind window.now) self.now }
         ensures { Sends [] (validity_of kind window.now) self.old self.new }
     {
         if kind.has_bitmap() {
-            self.write_null_buffer(window);
+            self.write_null_buffer(window, nulls);
         }
     }
 
     // Which rows are valid; nothing where all are.
-    fn write_null_buffer(&mut self, window: &Window)
+    fn write_null_buffer(&mut self, window: &Window, nulls: u64)
         requires kind { (k : Kind) → Is (numbers_of window.now.node) k → has_bitmap k ≡ true }
+        requires nulls { nulls ≡ (own_field (shown_in (window_in window.now))).nulls }
         requires room { RoomFor [] (marks_in window.now ∷ []) self.now }
         ensures { Sends [] (marks_in window.now ∷ []) self.old self.new }
     {
@@ -143,7 +147,7 @@ impl IpcMessageWriter<'_> {
             self.encode_nothing();
             return;
         };
-        if window.null_count() == 0 {
+        if nulls == 0 {
             self.encode_nothing();
         } else {
             self.write_bits(&marks);
@@ -203,22 +207,24 @@ impl IpcMessageWriter<'_> {
     }
 
     /// A field after those so far.
-    pub(crate) fn push_node(&mut self, window: &Window)
-        requires { self.now.field_count < length self.now.fields.now }
+    pub(crate) fn push_node(&mut self, window: &Window, nulls: u64)
+        requires room { self.now.field_count < length self.now.fields.now }
+        requires nulls { nulls ≡ (own_field (shown_in (window_in window.now))).nulls }
         ensures { Sends (own_record window.now ∷ []) [] self.old self.new }
     {
-        self.fields[self.field_count] = field_record(window);
+        self.fields[self.field_count] = field_record(window, nulls);
         self.field_count += 1;
     }
 }
 
 // The field record of a window.
-fn field_record(window: &Window) -> FieldRecord
+fn field_record(window: &Window, nulls: u64) -> FieldRecord
+    requires { nulls ≡ (own_field (shown_in (window_in window.now))).nulls }
     ensures { result ≡ own_record window.now }
 {
     FieldRecord {
         rows: window.rows() as i64,
-        nulls: window.null_count() as i64,
+        nulls: nulls as i64,
     }
 }
 

@@ -8,6 +8,7 @@ use Rattle.recording.specs.declared.options.DictionaryHandling.TheVariants.{Rese
 use Rattle.orders.specs.declared.call.Batch.{Batch}
 use Rattle.orders.specs.declared.call.Call.{Call}
 use Rattle.orders.specs.declared.call.Call.TheVariants as call
+use Rattle.orders.specs.declared.call.MemorySizes.{MemorySizes}
 use Rattle.orders.specs.declared.error.Why.{Why}
 use Rattle.orders.specs.declared.error.Why.TheVariants.{UnknownItem, MissingWord, NotText, UnknownWord, Memory}
 use Rattle.orders.specs.declared.item.Item.{Item}
@@ -15,7 +16,7 @@ use Rattle.orders.specs.declared.item.Item.TheVariants as item
 use Rattle.orders.specs.declared.item.Part.{Part}
 use Rattle.orders.specs.declared.item.Part.TheVariants.{Nodes, Bytes}
 use Rattle.orders.specs.declared.item.Verb.{Verb}
-use Rattle.orders.specs.declared.item.Verb.TheVariants.{Case, Node, Hex, File, Align, Handling, ErrorOnReplacement, Show, Id, Collect}
+use Rattle.orders.specs.declared.item.Verb.TheVariants.{Case, Node, Hex, File, Align, Handling, ErrorOnReplacement, Show, Id, Collect, Lend, Plan}
 use Rattle.orders.specs.Texts.{is_empty, uncommented, word_in, after_word, at_end, only_word}
 use Rattle.orders.specs.Numbers.{number_read}
 use Rattle.orders.specs.Hexes.{hex_read}
@@ -64,6 +65,19 @@ batch_from ns = record { first = slice_index ns 0; columns = slice_index ns 1; r
 abbrev pub batch_read : List ℕ → Result Batch Why
 batch_read text = map_ok batch_from (numbers_in 3 text)
 
+abbrev pub sizes_from : List ℕ → MemorySizes
+sizes_from ns =
+    record {
+      fields = slice_index ns 0;
+      buffers = slice_index ns 1;
+      messages = slice_index ns 2;
+      work = slice_index ns 3;
+      metadata = slice_index ns 4;
+    }
+
+abbrev pub sizes_read : List ℕ → Result MemorySizes Why
+sizes_read text = map_ok sizes_from (numbers_in 5 text)
+
 -- ---- one of some words
 
 -- what a word stands for, where it is one of those that may stand there
@@ -104,7 +118,9 @@ verb_of w =
     (cond (bytes_eq w (codes "error_on_replacement")) (Some ErrorOnReplacement)
     (cond (bytes_eq w (codes "show")) (Some Show)
     (cond (bytes_eq w (codes "id")) (Some Id)
-    (cond (bytes_eq w (codes "collect")) (Some Collect) None)))))))))))
+    (cond (bytes_eq w (codes "collect")) (Some Collect)
+    (cond (bytes_eq w (codes "memory")) (Some Lend)
+    (cond (bytes_eq w (codes "plan")) (Some Plan) None)))))))))))))
 
 abbrev pub verb_read : List ℕ → Result Verb Why
 verb_read w = ok_or (verb_of w) UnknownItem
@@ -152,6 +168,8 @@ rest_read ErrorOnReplacement rest = map_ok an_error_on_replacement (flag_read re
 rest_read Show rest = map_ok (λ batch. a_call (call.Show batch)) (batch_read rest)
 rest_read Id rest = map_ok a_call (id_read rest)
 rest_read Collect rest = map_ok (λ batch. a_call (call.Collect batch)) (batch_read rest)
+rest_read Lend rest = map_ok (λ sizes. a_call (call.Lend sizes)) (sizes_read rest)
+rest_read Plan rest = map_ok (λ batch. a_call (call.Plan batch)) (batch_read rest)
 
 abbrev pub item_by : Result Verb Why → List ℕ → Result (Option Saying) Why
 item_by (Err why) rest = Err why

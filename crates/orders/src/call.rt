@@ -8,6 +8,16 @@ pub struct Batch {
     pub rows: u64,
 }
 
+/// How long the memories are that a call is lent: entries of the first three, and bytes of the others.
+#[derive(Clone, Copy, Debug, PartialEq, Eq, Hash)]
+pub struct MemorySizes {
+    pub fields: u64,
+    pub buffers: u64,
+    pub messages: u64,
+    pub work: u64,
+    pub metadata: u64,
+}
+
 /// What a line of a case asks for.
 #[derive(Clone, Copy, Debug, PartialEq, Eq, Hash)]
 pub enum Call {
@@ -17,4 +27,8 @@ pub enum Call {
     Id,
     /// To collect the dictionaries of a batch.
     Collect(Batch),
+    /// To lend the calls after it memories of these sizes.
+    Lend(MemorySizes),
+    /// To plan the messages of a batch.
+    Plan(Batch),
 }

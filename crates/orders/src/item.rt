@@ -1,9 +1,9 @@
 //! What a line of an order says.
 ghost use Rattle.std.specs.Prelude.{◌≡◌, string_bytes, IsUtf8};
 ghost use Rattle.orders.specs.Texts.{only_word};
-ghost use Rattle.orders.specs.Items.{numbers_in, node_read, only_number, handling_read, flag_read, batch_read, id_read, verb_read, said, said_by, rest_read, item_read, IsText, IsTextIn, ReadsText};
+ghost use Rattle.orders.specs.Items.{numbers_in, node_read, only_number, handling_read, flag_read, batch_read, sizes_read, id_read, verb_read, said, said_by, rest_read, item_read, IsText, IsTextIn, ReadsText};
 
-use crate::call::{Batch, Call};
+use crate::call::{Batch, Call, MemorySizes};
 use crate::error::Why;
 use crate::hex::read_hex;
 use crate::number::read_number;
@@ -49,6 +49,8 @@ enum Verb {
     Show,
     Id,
     Collect,
+    Lend,
+    Plan,
 }
 
 impl TryFrom<&[u8]> for Verb {
@@ -70,6 +72,8 @@ impl TryFrom<&[u8]> for Verb {
             b"show" => Ok(Verb::Show),
             b"id" => Ok(Verb::Id),
             b"collect" => Ok(Verb::Collect),
+            b"memory" => Ok(Verb::Lend),
+            b"plan" => Ok(Verb::Plan),
             _ => Err(Why::UnknownItem),
         }
     }
@@ -103,6 +107,8 @@ fn read_rest(heap: Global, verb: Verb, rest: &[u8]) -> Result<Item, Why>
         Verb::Show => read_batch(rest).map(|batch| Item::Call(Call::Show(batch))),
         Verb::Id => read_id(rest).map(Item::Call),
         Verb::Collect => read_batch(rest).map(|batch| Item::Call(Call::Collect(batch))),
+        Verb::Lend => read_sizes(rest).map(|sizes| Item::Call(Call::Lend(sizes))),
+        Verb::Plan => read_batch(rest).map(|batch| Item::Call(Call::Plan(batch))),
     }
 }
 
@@ -160,6 +166,20 @@ fn read_batch(text: &[u8]) -> Result<Batch, Why>
         first,
         columns,
         rows,
+    })
+}
+
+// The sizes of memories that five numbers spell, and nothing after them.
+fn read_sizes(text: &[u8]) -> Result<MemorySizes, Why>
+    ensures { result ≡ sizes_read text.now }
+{
+    let [fields, buffers, messages, work, metadata] = read_numbers::<5>(text)?;
+    Ok(MemorySizes {
+        fields,
+        buffers,
+        messages,
+        work,
+        metadata,
     })
 }
 

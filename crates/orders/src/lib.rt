@@ -9,6 +9,8 @@
 //! - `show FIRST COLUMNS ROWS` asks to show the rows of a batch: a first node, how many columns, and how many rows they have.
 //! - `id` asks for the next id.
 //! - `collect FIRST COLUMNS ROWS` asks to collect the dictionaries of a batch.
+//! - `memory FIELDS BUFFERS MESSAGES WORK METADATA` says how long the memories are that the calls after it are lent: entries of the first three, and bytes of the others.
+//! - `plan FIRST COLUMNS ROWS` asks to plan the messages of a batch.
 //!
 //! The three options stand for the whole case, wherever their lines are; of two lines that set the same, the last counts.
 //!
@@ -28,7 +30,7 @@ mod number;
 mod options;
 mod text;
 
-pub use call::{Batch, Call};
+pub use call::{Batch, Call, MemorySizes};
 pub use error::{OrderError, Why};
 use item::{Item, Part, read_item};
 pub use options::Options;

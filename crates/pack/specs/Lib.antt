@@ -1,3 +1,6 @@
 pub mod Levels
 pub mod Shown
 pub mod Collected
+pub mod Lending
+pub mod Planned
+pub mod Bodies

@@ -1,7 +1,15 @@
--- What is printed of a node, and of a dictionary that a batch meets.
+-- What is printed of a node, of a dictionary that a batch meets, and of a message.
 use Rattle.std.specs.Prelude.{ℕ, List, ◌++◌, codes, decimal, Some, None, Option}
+use Rattle.std.specs.Fmt.{signed_decimal}
+use Rattle.std.specs.List.{flat_map}
+use Rattle.columns.specs.declared.message.MessageKind.{MessageKind}
+use Rattle.columns.specs.declared.message.MessageKind.TheVariants.{Batch, Dictionary, Delta}
+use Rattle.columns.specs.declared.record.BufferEntry.{BufferEntry}
+use Rattle.columns.specs.declared.record.BufferRecord.{BufferRecord}
+use Rattle.columns.specs.declared.record.FieldRecord.{FieldRecord}
 use Rattle.dictionaries.specs.declared.update.DictionaryToEncode.{DictionaryToEncode}
 use Rattle.dictionaries.specs.Sending.{update_name}
+use Rattle.pack.specs.declared.message.MessageLine.{MessageLine}
 use Rattle.pack.specs.declared.show.NodeLine.{NodeLine}
 use Rattle.pack.specs.declared.update.UpdateLine.{UpdateLine}
 
@@ -23,3 +31,27 @@ update_shown l =
     codes "update " ++ (decimal l.id ++ (codes " id " ++ (decimal l.id
     ++ (codes " column " ++ (decimal l.column ++ (codes " node " ++ (decimal l.node
     ++ (codes " " ++ (update_name l.update ++ (codes " rows " ++ decimal l.rows))))))))))
+
+abbrev pub kind_name : MessageKind → List ℕ
+kind_name Batch = codes "batch"
+kind_name Dictionary = codes "dictionary"
+kind_name Delta = codes "delta"
+
+abbrev pub field_shown : FieldRecord → List ℕ
+field_shown f = codes " (" ++ (signed_decimal f.rows ++ (codes "," ++ (signed_decimal f.nulls ++ codes ")")))
+
+abbrev pub fields_shown : List FieldRecord → List ℕ
+fields_shown fs = flat_map field_shown fs
+
+abbrev pub buffer_shown : BufferRecord → List ℕ
+buffer_shown b = codes " (" ++ (signed_decimal b.offset ++ (codes "," ++ (signed_decimal b.length ++ codes ")")))
+
+abbrev pub buffers_shown : List BufferEntry → List ℕ
+buffers_shown es = flat_map (λ e. buffer_shown e.buffer) es
+
+abbrev pub message_shown : MessageLine → List ℕ
+message_shown l =
+    codes "message " ++ (decimal l.index ++ (codes " kind " ++ (kind_name l.message.kind
+    ++ (codes " id " ++ (decimal l.message.id ++ (codes " rows " ++ (decimal l.message.rows
+    ++ (codes " body " ++ (decimal l.message.lengths.1
+    ++ (codes " fields" ++ (fields_shown l.fields.0.now ++ (codes " buffers" ++ buffers_shown l.buffers.0.now))))))))))))

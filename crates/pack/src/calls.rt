@@ -2,27 +2,39 @@
 ghost use Rattle.std.specs.Prelude.{MatchResult};
 ghost use Rattle.pack.specs.Collected.{IsCollected, IsRefused};
 
+use crate::memory::MOST;
+use crate::plan::show_plan;
 use crate::update::line_of;
 use crate::value::RowText;
-use dictionaries::{DictionaryTracker, MetDictionaries};
+use dictionaries::{DictionaryTracker, MetDictionaries, MetDictionary};
 use layout::{Fault, Node};
 use orders::{Batch, Call};
 use recording::{Columns, IpcWriteOptions, Recording};
 use std::io;
 
+/// A case that is opened: its recording, the bytes that this reads, and its options.
+#[derive(Clone, Copy)]
+pub(crate) struct Opened<'a> {
+    pub recording: Recording<'a>,
+    pub bytes: &'a [u8],
+    pub options: IpcWriteOptions,
+}
+
 /// Makes the calls of a case in their order, and prints what each answers.
 pub(crate) fn show_calls(
-    rt: &impl Print,
-    recording: &Recording,
-    options: &IpcWriteOptions,
+    rt: &(impl Print + AllocGlobal),
+    opened: &Opened,
     calls: &[Call],
 ) -> io::Result<()> {
     let mut tracker = DictionaryTracker::new();
+    let mut sizes = MOST;
     for call in calls {
         match *call {
-            Call::Show(batch) => show_columns(rt, recording, batch)?,
+            Call::Show(batch) => show_columns(rt, &opened.recording, batch)?,
             Call::Id => show_id(rt, &mut tracker)?,
-            Call::Collect(batch) => show_updates(rt, recording, options, batch, &mut tracker)?,
+            Call::Collect(batch) => show_updates(rt, opened, batch, &mut tracker)?,
+            Call::Lend(lent) => sizes = lent,
+            Call::Plan(batch) => show_plan(rt, opened, batch, &sizes, &mut tracker)?,
         }
     }
     Ok(())
@@ -34,8 +46,8 @@ pub(crate) fn show_fault_of(rt: &impl Print, what: &str, fault: Fault) -> io::Re
     show_fault(rt, fault)
 }
 
-// Prints a fault, and its rule in words.
-fn show_fault(rt: &impl Print, fault: Fault) -> io::Result<()> {
+/// Prints a fault, and its rule in words.
+pub(crate) fn show_fault(rt: &impl Print, fault: Fault) -> io::Result<()> {
     println!(rt; "{fault}")?;
     println!(rt; "{}", fault.refusal)
 }
@@ -51,21 +63,23 @@ fn show_id(rt: &impl Print, tracker: &mut DictionaryTracker) -> io::Result<()> {
 // Prints a line for each dictionary that a batch meets, or why they are not collected.
 fn show_updates(
     rt: &impl Print,
-    recording: &Recording,
-    options: &IpcWriteOptions,
+    opened: &Opened,
     batch: Batch,
     tracker: &mut DictionaryTracker,
 ) -> io::Result<()> {
-    match collect(recording, options, batch, tracker) {
-        Ok(met) => {
-            // The j-th dictionary has the j-th id.
-            for (id, dictionary) in met.iter().enumerate() {
-                println!(rt; "{}", line_of(id as u64, dictionary))?;
-            }
-            Ok(())
-        }
+    match collect(&opened.recording, &opened.options, batch, tracker) {
+        Ok(met) => show_met(rt, &met),
         Err(fault) => show_fault(rt, fault),
     }
+}
+
+/// Prints a line for each dictionary that is met.
+pub(crate) fn show_met(rt: &impl Print, met: &[MetDictionary]) -> io::Result<()> {
+    // The j-th dictionary has the j-th id.
+    for (id, dictionary) in met.iter().enumerate() {
+        println!(rt; "{}", line_of(id as u64, dictionary))?;
+    }
+    Ok(())
 }
 
 // The dictionaries that a batch meets, whose new values are kept, or why they are not collected: then what is kept stays.

@@ -1,8 +1,12 @@
-//! Opens the recordings that an order spells, and prints their trees and what it asks for, the rows and the dictionaries of
-//! batches, or the rules that they break.
+//! Opens the recordings that an order spells, and prints their trees and what it asks for, the rows, the dictionaries and the
+//! messages of batches, or the rules that they break.
 #![tactic(auto)]
 
+mod body;
 mod calls;
+mod memory;
+mod message;
+mod plan;
 mod sample;
 mod show;
 mod update;

@@ -1,11 +1,13 @@
 //! The order that is followed where the command line names none.
 
 /// A struct of lists, byte strings and a dictionary, with nulls; columns of other kinds; a dictionary that a valid row
-/// reaches past; dictionaries that are collected, with each update and a refused one; and an alignment that is none.
+/// reaches past; dictionaries that are collected, with each update and a refused one; batches that are planned, with each kind
+/// of message, and in memories that are too short; and an alignment that is none.
 pub const SAMPLE: &str = "\
 # node: kind mark size rows from bitmap slots data extent span
 # A bitmap is given as its place plus 1, and 0 is none.
 case rows
+align 8
 node 7 0 0 3 1  1  0  0 0 6  # a struct; its second row is null
 node 5 1 0 3 1  0 12  0 0 2  #   a list in each row: of two, none and three
 node 2 0 2 5 3  2 32  0 0 1  #     values of two bytes; one is null
@@ -23,8 +25,13 @@ bytes 726564 626c7565                               # place 92: red, blue
 show 0 1 3                                          # the rows of the struct
 show 3 2 3                                          # two columns side by side: the byte strings, and the dictionary
 show 2 2 5                                          # the second column has other rows
+plan 0 1 3                                          # there is no id yet
+id
+plan 0 1 3                                          # the dictionary's values, and the struct
+plan 0 1 3                                          # the values were sent
 
 case kinds
+align 8
 node 1 0 0 3 2  0  0  0 0 1  # Booleans
 node 2 0 3 3 0  0  1  0 0 1  # values of three bytes
 node 4 0 0 3 0  0 10 42 6 1  # byte strings with offsets of eight bytes
@@ -36,6 +43,8 @@ bytes 0300000000000000 0600000000000000
 bytes 616263 00ff7f                                 # place 42: the byte strings
 show 0 4 3
 show 0 1 2147483648                                 # too many rows
+plan 0 4 3
+plan 0 0 0                                          # no columns
 
 case key
 node 8 1 1 3 0 0 0  0 0 2
@@ -80,6 +89,25 @@ id
 collect 0 1 1
 collect 3 1 1              # other values
 collect 0 1 1              # a refusal keeps what was kept
+
+case memories
+align 8
+handling delta
+node 8 1 1 2 0 0 0  0 0 2  # a dictionary: a, b
+node 3 2 0 2 0 0 2 18 2 1
+node 8 1 1 2 0 0 0  0 0 2  # a, b, c
+node 3 2 0 3 0 0 2 18 3 1
+bytes 00 01                                # place  0: the keys
+bytes 00000000 01000000 02000000 03000000  # place  2: where the values begin and end
+bytes 616263                               # place 18: the values
+id
+memory 1 4 1 11 65535
+plan 0 1 2                                 # each is too short by one
+memory 2 5 2 11 65536
+plan 0 1 2                                 # work memory is
+memory 2 5 2 12 65536
+plan 0 1 2                                 # nothing was kept
+plan 2 1 2                                 # one value more
 
 case alignment
 align 24

@@ -12,7 +12,7 @@ ghost use Rattle.recording.specs.Trees.{places_left};
 ghost use Rattle.pack.specs.Levels.{IsDeep};
 ghost use Rattle.pack.specs.Shown.{node_shown};
 
-use crate::calls::{show_calls, show_fault_of};
+use crate::calls::{Opened, show_calls, show_fault_of};
 use layout::{Fault, Kind, Node};
 use orders::{Case, Options};
 use recording::{IpcWriteOptions, NodeRef, Recording, Trees};
@@ -52,10 +52,10 @@ impl fmt::Display for NodeLine {
 }
 
 /// Opens a case, and prints its nodes and what its calls answer, or the rule that it breaks.
-pub(crate) fn show_case(rt: &impl Print, case: &Case) -> io::Result<()> {
+pub(crate) fn show_case(rt: &(impl Print + AllocGlobal), case: &Case) -> io::Result<()> {
     show_name(rt, case)?;
     match write_options(&case.options) {
-        Ok(options) => show_opening(rt, case, &options),
+        Ok(options) => show_opening(rt, case, options),
         Err(fault) => show_fault_of(rt, "options", fault),
     }
 }
@@ -78,11 +78,20 @@ fn write_options(options: &Options) -> Result<IpcWriteOptions, Fault>
 }
 
 // Prints the nodes of a case's recording, and then what its calls answer.
-fn show_opening(rt: &impl Print, case: &Case, options: &IpcWriteOptions) -> io::Result<()> {
+fn show_opening(
+    rt: &(impl Print + AllocGlobal),
+    case: &Case,
+    options: IpcWriteOptions,
+) -> io::Result<()> {
     match Recording::try_new(&case.nodes, &case.bytes) {
         Ok(recording) => {
             show_recording(rt, &recording)?;
-            show_calls(rt, &recording, options, &case.calls)
+            let opened = Opened {
+                recording,
+                bytes: &case.bytes,
+                options,
+            };
+            show_calls(rt, &opened, &case.calls)
         }
         Err(fault) => show_fault_of(rt, "open", fault),
     }

@@ -1,5 +1,7 @@
-//! What `bench/` calls from C to time an opening, a count of bits and a comparison of dictionaries beside plain C.
+//! What `bench/` calls from C to time an opening, a count of bits, a comparison of dictionaries and a plan beside plain C.
 #![tactic(auto)]
+
+mod plan;
 
 ghost use Rattle.std.specs.Prelude.{◌≡◌, Ok, Err, MatchResult};
 ghost use Rattle.recording.specs.View.{bytes_in};

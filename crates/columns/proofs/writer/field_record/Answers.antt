@@ -14,12 +14,12 @@ pub overflow_cast-result-2 : goal.overflow_cast-result-2
 overflow_cast-result-2 c =
     let v = window_in c.args.window.now in
     let f = field_fits v (inside_of c.args.window.now) in
-    record { sfits = omega (arith, f.rows, f.nulls, c.null_count.ensures) }
+    record { sfits = omega (arith, f.rows, f.nulls, c.requires) }
 
 pub returns : goal.returns
 returns c =
     let v = window_in c.args.window.now in
     let f = field_fits v (inside_of c.args.window.now) in
     let rows = to_z_pos w64 c.rows.result (omega (arith, field_rows v, f.rows, c.rows.ensures)) ∙ ap pos (c.rows.ensures ∙ sym (field_rows v)) in
-    let nulls = to_z_pos w64 c.null_count.result (omega (arith, f.rows, f.nulls, c.null_count.ensures)) ∙ ap pos c.null_count.ensures in
+    let nulls = to_z_pos w64 c.args.nulls (omega (arith, f.rows, f.nulls, c.requires)) ∙ ap pos c.requires in
     ap₂ (λ (r n : ℤ). record { rows = r; nulls = n }) rows nulls

@@ -54,13 +54,13 @@ write_children-returns t c =
 
 -- ---- a window
 
-pub write_array_data-push_node-requires : goal.write_array_data-push_node-requires
-write_array_data-push_node-requires t c = node_room c.args.window.now c.kind-kind.result (kind_is c.kind-kind.result c.node.ensures c.kind-kind.ensures) c.args.self.now c.requires
+pub write_array_data-push_node-requires-clause-room : goal.write_array_data-push_node-requires-clause-room
+write_array_data-push_node-requires-clause-room t c = node_room c.args.window.now c.kind-kind.result (kind_is c.kind-kind.result c.node.ensures c.kind-kind.ensures) c.args.self.now c.requires
 
 pub write_array_data-write_validity-requires : goal.write_array_data-write_validity-requires
 write_array_data-write_validity-requires t c =
     let is = kind_is c.kind-kind.result c.node.ensures c.kind-kind.ensures in
-    record { kind = is; room = validity_room c.args.window.now c.kind-kind.result is c.args.self.now c.requires c.push_node.new.self c.push_node.ensures }
+    record { kind = is; nulls = c.null_count-nulls.ensures; room = validity_room c.args.window.now c.kind-kind.result is c.args.self.now c.requires c.push_node.new.self c.push_node.ensures }
 
 pub write_array_data-write_contents-requires : goal.write_array_data-write_contents-requires
 write_array_data-write_contents-requires t c =

@@ -15,17 +15,17 @@ returns-in_default c =
     let none = marks_none c.args.window.now c.requires.kind (subst (TellValid c.args.window.now) c.in_default.is c.marks.ensures) in
     subst (λ (p : Piece). Sends [] (p ∷ []) c.args.self.now c.encode_nothing.new.self) (sym none) c.encode_nothing.ensures
 
-pub returns-then-null_count-eq0 : goal.returns-then-null_count-eq0
-returns-then-null_count-eq0 c =
-    let full = marks_full c.args.window.now c.requires.kind c.in-Some.marks (subst (TellValid c.args.window.now) c.in-Some.is c.marks.ensures) c.null_count.result c.null_count.ensures c.if-null_count-eq0.true in
-    subst (λ (p : Piece). Sends [] (p ∷ []) c.args.self.now c.encode_nothing-then-null_count-eq0.new.self) (sym full) c.encode_nothing-then-null_count-eq0.ensures
+pub returns-then-nulls-eq0 : goal.returns-then-nulls-eq0
+returns-then-nulls-eq0 c =
+    let full = marks_full c.args.window.now c.requires.kind c.in-Some.marks (subst (TellValid c.args.window.now) c.in-Some.is c.marks.ensures) c.args.nulls c.requires.nulls c.if-nulls-eq0.true in
+    subst (λ (p : Piece). Sends [] (p ∷ []) c.args.self.now c.encode_nothing-then-nulls-eq0.new.self) (sym full) c.encode_nothing-then-nulls-eq0.ensures
 
 pub write_bits-requires : goal.write_bits-requires
 write_bits-requires c =
-    let some = marks_some c.args.window.now c.requires.kind c.in-Some.marks (subst (TellValid c.args.window.now) c.in-Some.is c.marks.ensures) c.null_count.result c.null_count.ensures c.if-null_count-eq0.false in
+    let some = marks_some c.args.window.now c.requires.kind c.in-Some.marks (subst (TellValid c.args.window.now) c.in-Some.is c.marks.ensures) c.args.nulls c.requires.nulls c.if-nulls-eq0.false in
     subst (λ (p : Piece). RoomFor [] (p ∷ []) c.args.self.now) some c.requires.room
 
-pub returns-else-null_count-eq0 : goal.returns-else-null_count-eq0
-returns-else-null_count-eq0 c =
-    let some = marks_some c.args.window.now c.requires.kind c.in-Some.marks (subst (TellValid c.args.window.now) c.in-Some.is c.marks.ensures) c.null_count.result c.null_count.ensures c.if-null_count-eq0.false in
+pub returns-else-nulls-eq0 : goal.returns-else-nulls-eq0
+returns-else-nulls-eq0 c =
+    let some = marks_some c.args.window.now c.requires.kind c.in-Some.marks (subst (TellValid c.args.window.now) c.in-Some.is c.marks.ensures) c.args.nulls c.requires.nulls c.if-nulls-eq0.false in
     subst (λ (p : Piece). Sends [] (p ∷ []) c.args.self.now c.write_bits.new.self) (sym some) c.write_bits.ensures

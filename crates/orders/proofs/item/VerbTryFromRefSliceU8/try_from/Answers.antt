@@ -26,3 +26,9 @@ returns-in-101 c = read_as c.args.word.now (codes "error_on_replacement") (omega
 
 pub returns-in-collect : goal.returns-in-collect
 returns-in-collect c = read_as c.args.word.now (codes "collect") (omega arith) (search rules)
+
+pub returns-in-memory : goal.returns-in-memory
+returns-in-memory c = read_as c.args.word.now (codes "memory") (omega arith) (search rules)
+
+pub returns-in-plan : goal.returns-in-plan
+returns-in-plan c = read_as c.args.word.now (codes "plan") (omega arith) (search rules)
