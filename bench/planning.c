@@ -1,4 +1,5 @@
-/* A plan of a column with a copy of its body beside memcpy of as many bytes, in one run. */
+/* A plan of a column with a copy of its body beside memcpy of as many bytes, in one run; and beside the original, where its
+   archive is built in. */
 #define _POSIX_C_SOURCE 199309L
 #include <stdbool.h>
 #include <stdint.h>
@@ -18,6 +19,16 @@ struct recording {
 uint32_t timing_open_into(struct recording *recording, const uint8_t *nodes, size_t node_bytes, const uint8_t *bytes, size_t count);
 uint64_t timing_plan(const struct recording *recording, const uint8_t *bytes, size_t count, size_t node, uint64_t rows,
                      uint8_t *work, size_t work_bytes, uint8_t *metadata, size_t metadata_bytes, uint8_t *out, size_t out_bytes);
+
+/* What the original's archive has to export. `original_batch` prepares a batch of one column, at a node, with so many rows; the
+   nodes are 80 bytes each, as above, and they and the bytes stay as they are until `original_drop`. It answers null where it
+   cannot. `original_frame` writes the whole message of the batch to the start of `out`: alignment 64, any metadata, and last the
+   body. It answers how long the message is, or 0 where it is not written; it is called many times. `original_drop` ends a batch. */
+#ifdef ORIGINAL
+void *original_batch(const uint8_t *nodes, size_t node_bytes, const uint8_t *bytes, size_t count, size_t node, uint64_t rows);
+size_t original_frame(void *batch, uint8_t *out, size_t out_bytes);
+void original_drop(void *batch);
+#endif
 
 enum { MILLION = 1000000, VALUE = 8, STRING = 8, FIRST_BYTE = 5, FIRST_BIT = 3, LIST = 4, ALIGNMENT = 64, RUNS = 25 };
 enum { NODES = 4, BYTES = 64 << 20, METADATA = 65536, AFTER = 100 };
@@ -133,48 +144,119 @@ struct room {
     uint8_t *work, *metadata, *out;
 };
 
-static uint64_t plan(const struct making *m, const struct recording *recording, size_t rows, const struct room *room) {
-    return timing_plan(recording, m->bytes, m->count, 0, rows, room->work, BYTES, room->metadata, METADATA, room->out, m->length + AFTER);
+/* what is timed: in each round a plan, memcpy, and the original where it is there */
+enum { PLAN, COPY, WRITE, TIMED };
+
+/* a column to plan, to copy and to write */
+struct trial {
+    const struct making *making;
+    struct recording recording;
+    size_t rows;
+    const struct room *room;
+    void *batch; /* the original's, or null where it is not there */
+};
+
+static bool prepare(struct trial *t) {
+#ifdef ORIGINAL
+    const struct making *m = t->making;
+    t->batch = original_batch((const uint8_t *)m->nodes, 80 * m->node_count, m->bytes, m->count, 0, t->rows);
+    return t->batch;
+#else
+    t->batch = NULL;
+    return true;
+#endif
 }
 
-/* the body stands in `out`, and what is after it is as before */
-static bool is_right(const struct making *m, const struct recording *recording, size_t rows, const struct room *room) {
-    memset(room->out, 0x5a, m->length + AFTER);
-    if (plan(m, recording, rows, room) != m->length || memcmp(room->out, m->body, m->length)) return false;
+static void finish(struct trial *t) {
+#ifdef ORIGINAL
+    original_drop(t->batch);
+#endif
+    t->batch = NULL;
+}
+
+/* Makes the body in one of the ways; answers how long all is that is written, of which the body is the last. */
+static size_t make(int way, const struct trial *t) {
+    const struct making *m = t->making;
+    const struct room *room = t->room;
+    switch (way) {
+    case PLAN:
+        return timing_plan(&t->recording, m->bytes, m->count, 0, t->rows, room->work, BYTES, room->metadata, METADATA, room->out,
+                           m->length + AFTER);
+    case COPY:
+        memcpy(room->out, m->body, m->length);
+        return m->length;
+    default:
+#ifdef ORIGINAL
+        return original_frame(t->batch, room->out, m->length + METADATA);
+#else
+        return 0;
+#endif
+    }
+}
+
+/* the body stands last in what is written, and what is after it is as before */
+static bool is_right(int way, const struct trial *t) {
+    const struct making *m = t->making;
+    uint8_t *out = t->room->out;
+    memset(out, 0x5a, m->length + METADATA + AFTER);
+    size_t length = make(way, t);
+    if (length < m->length || length > m->length + METADATA) return false;
+    if (way != WRITE && length != m->length) return false;
+    if (memcmp(out + length - m->length, m->body, m->length)) return false;
     for (size_t k = 0; k < AFTER; k++)
-        if (room->out[m->length + k] != 0x5a) return false;
+        if (out[length + k] != 0x5a) return false;
     return true;
+}
+
+/* the best time of each way */
+static bool run_rounds(const struct trial *t, int ways, double best[TIMED]) {
+    const struct making *m = t->making;
+    bool right = true;
+    for (int way = 0; way < ways; way++) best[way] = 1e9;
+    for (int run = 0; run < RUNS; run++)
+        for (int way = 0; way < ways; way++) {
+            double start = now();
+            size_t length = make(way, t);
+            double d = now() - start;
+            if (d < best[way]) best[way] = d;
+            right &= length >= m->length && t->room->out[length - m->length + run] == m->body[run]; /* the body is used */
+        }
+    return right;
+}
+
+static void show(const struct shape *s, const struct trial *t, const double best[TIMED]) {
+    double bytes = t->making->length * 1e-9;
+    printf("%-40s %9zu %9.2f %9.2f %9.2f", s->name, s->rows, bytes / best[PLAN], bytes / best[COPY], best[COPY] / best[PLAN]);
+    if (t->batch) printf(" %9.2f %9.2f %9.2f", bytes / best[WRITE], best[COPY] / best[WRITE], best[WRITE] / best[PLAN]);
+    putchar('\n');
 }
 
 static int measure(const struct shape *s, struct making *m, const struct room *room) {
     m->node_count = m->count = m->length = 0;
     s->make(m, 0, s->rows);
     const uint8_t *nodes = (const uint8_t *)m->nodes;
-    struct recording recording = {nodes, 0, m->bytes, 0};
-    uint32_t refused = timing_open_into(&recording, nodes, 80 * m->node_count, m->bytes, m->count);
+    struct trial t = {m, {nodes, 0, m->bytes, 0}, s->rows, room, NULL};
+    uint32_t refused = timing_open_into(&t.recording, nodes, 80 * m->node_count, m->bytes, m->count);
     if (refused) {
         fprintf(stderr, "%s: refused with %u\n", s->name, refused);
         return 1;
     }
-    bool right = is_right(m, &recording, s->rows, room);
-    double ours = 1e9, theirs = 1e9;
-    for (int run = 0; run < RUNS; run++) {
-        double t = now();
-        right &= plan(m, &recording, s->rows, room) == m->length;
-        double d = now() - t;
-        if (d < ours) ours = d;
-        t = now();
-        memcpy(room->out, m->body, m->length);
-        d = now() - t;
-        if (d < theirs) theirs = d;
-        right &= room->out[run] == m->body[run]; /* the copy is used */
-    }
-    if (!right || !is_right(m, &recording, s->rows, room)) {
-        fprintf(stderr, "%s: a wrong body\n", s->name);
+    if (!prepare(&t)) {
+        fprintf(stderr, "%s: the original refuses it\n", s->name);
         return 1;
     }
-    printf("%-40s %9zu %9.2f %9.2f %9.2f\n", s->name, s->rows, m->length / ours * 1e-9, m->length / theirs * 1e-9, theirs / ours);
-    return 0;
+    int ways = t.batch ? TIMED : WRITE;
+    double best[TIMED];
+    bool right = true;
+    for (int way = 0; way < ways; way++) right &= is_right(way, &t);
+    right &= run_rounds(&t, ways, best);
+    for (int way = 0; way < ways; way++) right &= is_right(way, &t);
+    if (right)
+        show(s, &t, best);
+    else
+        fprintf(stderr, "%s: a wrong body\n", s->name);
+    finish(&t);
+    return !right;
 }
 
 int main(void) {
@@ -188,7 +270,11 @@ int main(void) {
     struct making making = {.bytes = malloc(BYTES), .body = malloc(BYTES)};
     struct room room = {malloc(BYTES), malloc(METADATA), malloc(BYTES)};
     if (!making.bytes || !making.body || !room.work || !room.metadata || !room.out) return 1;
-    printf("%-40s %9s %9s %9s %9s\n", "GB/s of body bytes", "rows", "plan", "memcpy", "ratio");
+    printf("%-40s %9s %9s %9s %9s", "GB/s of body bytes", "rows", "plan", "memcpy", "ratio");
+#ifdef ORIGINAL
+    printf(" %9s %9s %9s", "original", "ratio", "plan to it");
+#endif
+    putchar('\n');
     int failed = 0;
     for (size_t k = 0; k < sizeof shapes / sizeof *shapes; k++)
         failed |= measure(&shapes[k], &making, &room);

@@ -1,16 +1,10 @@
 -- The messages of dictionaries, one after another.
-use Rattle.std.proofs.Common.{◌≡◌, ℕ, zero, suc, ◌+◌, ◌<◌, ◌≤◌, Bool, true, false, cond, Some, None, Option, List, [], ◌∷◌, ◌++◌, length, drop, get_or, sym, refl, ap, ◌∙◌, subst, arith}
-use Rattle.std.specs.Prelude.{nat_lt}
-use Rattle.std.proofs.lemmas.Bool.{ltb-true, leb-true, and_parts}
+use Rattle.std.proofs.Common.{◌≡◌, ℕ, zero, suc, ◌+◌, ◌<◌, ◌≤◌, List, [], ◌∷◌, ◌++◌, length, drop, get_or, sym, refl, ap, ◌∙◌, subst, arith}
 use Rattle.std.proofs.lemmas.List.{append-nil}
 use Rattle.layout.specs.Windows as layout
-use Rattle.layout.specs.Windows.{Inside}
 use Rattle.recording.specs.declared.recording.Recording.{Recording}
-use Rattle.recording.specs.View.{nodes_in}
-use Rattle.recording.specs.Windows.{window_at}
 use Rattle.recording.specs.declared.columns.Columns.{Columns}
 use Rattle.dictionaries.specs.Batches.{column_windows}
-use Rattle.dictionaries.specs.Sending.{encoded_by}
 use Rattle.dictionaries.specs.declared.update.DictionaryToEncode.{DictionaryToEncode}
 use Rattle.dictionaries.specs.declared.update.DictionaryUpdate.TheVariants as update
 use Rattle.dictionaries.specs.declared.update.MetDictionary.{MetDictionary}
@@ -22,10 +16,11 @@ use Rattle.columns.specs.Writing.{lent_nodes, lent_buffers, lent_work}
 use Rattle.columns.specs.Needs.{Counts, added}
 use Rattle.columns.specs.declared.record.FieldRecord.{FieldRecord}
 use Rattle.columns.specs.Pieces.{Piece, work_of, fields_in, fields_side, pieces_in, pieces_side}
-use Rattle.columns.specs.Plans.{ToSend, has_rows, sent_by, BodiesFit, messages_of, dictionary_message, batch_message, sent_of, all_sent, all_fields, all_pieces, MessagesSent, RoomForMessages}
+use Rattle.columns.specs.Plans.{ToSend, BodiesFit, messages_of, dictionary_message, batch_message, sent_of, all_sent, all_fields, all_pieces, MessagesSent, RoomForMessages}
 use Rattle.columns.proofs.Counting.{nothing, Few, counts_none, counts_more}
 use Rattle.columns.proofs.Planning.{messages_none, messages_more, messages_first, messages_next, all_fields-append, all_pieces-append, bodies_both}
 use Rattle.columns.proofs.Bodies.{window_body, columns_body}
+use Rattle.columns.proofs.EachMessage.{HoldsOfEach, holds_of_messages}
 
 -- those from one id on are those of that id, and of the later ones
 pub sent_next : (rec : Recording) (id i : ℕ) (ms : List MetDictionary) (d : MetDictionary) → i < length ms → all_sent rec id (drop i ms) ≡ sent_of rec id (get_or ms i d) ++ all_sent rec (id + 1) (drop (i + 1) ms)
@@ -123,25 +118,10 @@ batch_counted c ms m n whole e a b =
 
 -- ---- 63 bits hold the length of each body
 
-sent_fit : (rec : Recording) (al : ℕ) → 0 < al → al ≤ 64 → (id : ℕ) (m : MetDictionary) → BodiesFit al (sent_of rec id m)
-sent_fit rec al some few id m = by (encoded_by id m m.update)
-  where
-    by : (o : Option DictionaryToEncode) → BodiesFit al (sent_by rec o)
-    by None = tt
-    by (Some d) = with_test (has_rows rec d) refl
-      where
-        with_test : (b : Bool) → has_rows rec d ≡ b → BodiesFit al (cond b (dictionary_message d (window_at rec d.node d.first d.rows) ∷ []) [])
-        with_test false e = tt
-        with_test true e =
-            let both = and_parts (nat_lt d.node (length (nodes_in rec))) _ e in
-            (window_body rec d.node d.first d.rows (record { opened = rec.opened; stands = ltb-true _ _ both.0; within = leb-true _ _ both.1 }) al some few, tt)
-
-all_fit : (rec : Recording) (al : ℕ) → 0 < al → al ≤ 64 → (id : ℕ) (ms : List MetDictionary) → BodiesFit al (all_sent rec id ms)
-all_fit rec al some few id [] = tt
-all_fit rec al some few id (m ∷ ms) = bodies_both al (sent_of rec id m) (all_sent rec (id + 1) ms) (sent_fit rec al some few id m) (all_fit rec al some few (id + 1) ms)
-
 pub messages_fit : (c : Columns) (ms : List MetDictionary) (al : ℕ) → 0 < al → al ≤ 64 → BodiesFit al (messages_of c ms)
-messages_fit c ms al some few = bodies_both al (all_sent c.recording 0 ms) (batch_message c ∷ []) (all_fit c.recording al some few 0 ms) (columns_body c al some few, tt)
+messages_fit c ms al some few =
+    let each : HoldsOfEach c.recording (BodiesFit al) = record { none = tt; both = bodies_both al; one = λ d g. (window_body c.recording d.node d.first d.rows g al some few, tt) } in
+    holds_of_messages c ms (BodiesFit al) each (columns_body c al some few, tt)
 
 -- ---- a batch is written after its dictionaries
 

@@ -12,6 +12,7 @@ pub mod Counting
 pub mod Planning
 pub mod PieceBytes
 pub mod Bodies
+pub mod EachMessage
 pub mod Batches
 pub mod Told
 pub mod PlanTold

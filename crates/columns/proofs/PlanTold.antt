@@ -1,43 +1,26 @@
 -- A plan tells what the definitions send of a batch and its dictionaries.
-use Rattle.std.proofs.Common.{◌≡◌, ℕ, ◌+◌, ◌≤◌, Bool, true, false, cond, Some, None, Option, List, [], ◌∷◌, length, sym, refl}
+use Rattle.std.proofs.Common.{◌≡◌, ℕ, ◌≤◌, Bool, true, false, cond, Some, None, Option, List, length, sym, refl}
 use Rattle.std.specs.Prelude.{nat_lt}
 use Rattle.std.proofs.lemmas.Option.{none-some}
-use Rattle.std.proofs.lemmas.Bool.{ltb-false, ltb-true, leb-true, and_parts}
+use Rattle.std.proofs.lemmas.Bool.{ltb-false}
 use Rattle.recording.specs.declared.columns.Columns.{Columns}
-use Rattle.recording.specs.declared.recording.Recording.{Recording}
-use Rattle.recording.specs.View.{bytes_in, nodes_in}
-use Rattle.recording.specs.Windows.{window_at}
-use Rattle.dictionaries.specs.Sending.{encoded_by}
-use Rattle.dictionaries.specs.declared.update.DictionaryToEncode.{DictionaryToEncode}
+use Rattle.recording.specs.View.{bytes_in}
 use Rattle.dictionaries.specs.declared.update.MetDictionary.{MetDictionary}
 use Rattle.columns.specs.declared.memory.Memory.{Memory}
 use Rattle.columns.specs.Memories.{short_by, Planned}
-use Rattle.columns.specs.Plans.{has_rows, sent_by, sent_of, dictionary_message, batch_message, all_sent, messages_of}
+use Rattle.columns.specs.Plans.{messages_of}
 use Rattle.columns.specs.Telling.{Tells}
 use Rattle.columns.proofs.Bodies.{columns_all, window_all}
+use Rattle.columns.proofs.EachMessage.{HoldsOfEach, holds_of_messages}
 use Rattle.columns.proofs.Told.{AllInside, inside_both, told_in, each_gives_back}
 
 -- ---- its windows are windows of the recording
 
-sent_inside : (rec : Recording) (id : ℕ) (m : MetDictionary) → AllInside (bytes_in rec) (sent_of rec id m)
-sent_inside rec id m = by (encoded_by id m m.update)
-  where
-    by : (o : Option DictionaryToEncode) → AllInside (bytes_in rec) (sent_by rec o)
-    by None = tt
-    by (Some d) = with_test (has_rows rec d) refl
-      where
-        with_test : (b : Bool) → has_rows rec d ≡ b → AllInside (bytes_in rec) (cond b (dictionary_message d (window_at rec d.node d.first d.rows) ∷ []) [])
-        with_test false e = tt
-        with_test true e =
-            let both = and_parts (nat_lt d.node (length (nodes_in rec))) _ e in
-            (window_all rec d.node d.first d.rows (record { opened = rec.opened; stands = ltb-true _ _ both.0; within = leb-true _ _ both.1 }), tt)
-
-all_inside : (rec : Recording) (id : ℕ) (ms : List MetDictionary) → AllInside (bytes_in rec) (all_sent rec id ms)
-all_inside rec id [] = tt
-all_inside rec id (m ∷ ms) = inside_both (bytes_in rec) (sent_of rec id m) (all_sent rec (id + 1) ms) (sent_inside rec id m) (all_inside rec (id + 1) ms)
-
 messages_inside : (c : Columns) (ms : List MetDictionary) → AllInside (bytes_in c.recording) (messages_of c ms)
-messages_inside c ms = inside_both (bytes_in c.recording) (all_sent c.recording 0 ms) (batch_message c ∷ []) (all_inside c.recording 0 ms) (columns_all c, tt)
+messages_inside c ms =
+    let bs = bytes_in c.recording in
+    let each : HoldsOfEach c.recording (AllInside bs) = record { none = tt; both = inside_both bs; one = λ d g. (window_all c.recording d.node d.first d.rows g, tt) } in
+    holds_of_messages c ms (AllInside bs) each (columns_all c, tt)
 
 -- ---- no memory is too short
 

@@ -19,7 +19,7 @@ use Rattle.recording.specs.declared.window.Window.{Window}
 use Rattle.recording.specs.Contents.{AreMarks, NoMarks, slots_of}
 use Rattle.recording.specs.NodeRefs.{run_of, numbers_of}
 use Rattle.recording.specs.Windows.{window_in}
-use Rattle.recording.proofs.Contents.{SlotsAt, slots_at}
+use Rattle.recording.proofs.Contents.{SlotsAt, slots_at, nulls_marked}
 use Rattle.recording.proofs.Reading.{rules_at}
 use Rattle.recording.proofs.WindowFacts.{nulls_shown, marks_null}
 use Rattle.columns.specs.declared.record.EncodedBuffer.TheVariants.{Recording}
@@ -69,10 +69,10 @@ module _ (v : Window) (kind : (k : Kind) → Is (numbers_of v.node) k → has_bi
         ∙ ap₂ (λ (a c : ℕ). Marks.some (bits_at bits.bytes.now a c)) (sym h.first) (sym h.count)
 
     pub marks_full : nulls ≡ 0 → marks_in v ≡ made []
-    marks_full z = by_bytes (Marks.some (bits_of bits)) some ∙ ap (λ (b : Bool). made (cond b [] (bit_bytes (bits_of bits)))) (eq-eqb _ 0 (ap null_count (sym some) ∙ sym counted ∙ sym e ∙ z))
+    marks_full z = by_bytes (Marks.some (bits_of bits)) some ∙ ap (λ (b : Bool). made (cond b [] (bit_bytes (bits_of bits)))) (eq-eqb _ 0 (nulls_marked v bits h ∙ sym e ∙ z))
 
     pub marks_some : (nulls ≡ 0 → ⊥) → marks_in v ≡ made (bit_bytes (bits_of bits))
-    marks_some z = by_bytes (Marks.some (bits_of bits)) some ∙ ap (λ (b : Bool). made (cond b [] (bit_bytes (bits_of bits)))) (ne_eqb _ 0 (λ f. z (e ∙ counted ∙ ap null_count some ∙ f)))
+    marks_some z = by_bytes (Marks.some (bits_of bits)) some ∙ ap (λ (b : Bool). made (cond b [] (bit_bytes (bits_of bits)))) (ne_eqb _ 0 (λ f. z (e ∙ sym (nulls_marked v bits h) ∙ f)))
 
 -- ---- slots
 

@@ -10,6 +10,7 @@ mod message;
 mod needs;
 mod offsets;
 mod plan;
+mod reader;
 mod record;
 mod writer;
 
@@ -17,4 +18,5 @@ pub use law::nothing_else_counts_stands;
 pub use memory::Memory;
 pub use message::{Message, MessageKind};
 pub use plan::plan_batch;
+pub use reader::{Records, Sources};
 pub use record::{BufferEntry, BufferRecord, EncodedBuffer, FieldRecord};

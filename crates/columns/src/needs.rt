@@ -127,7 +127,7 @@ fn validity_bytes(kind: Kind, window: &Window) -> u64
     if !kind.has_bitmap() {
         return 0;
     }
-    if window.null_count() == 0 {
+    if !window.has_nulls() {
         return 0;
     }
     bytes_for(window.rows())

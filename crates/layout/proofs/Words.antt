@@ -16,7 +16,7 @@ use Rattle.std.specs.List.{range_with_len}
 
 -- ---- splitting a row
 
-zeros_add : (a b : ℕ) (f : ℕ → Bool) → zeros (rows (a + b) f) ≡ zeros (rows a f) + zeros (rows b (λ i. f (a + i)))
+pub zeros_add : (a b : ℕ) (f : ℕ → Bool) → zeros (rows (a + b) f) ≡ zeros (rows a f) + zeros (rows b (λ i. f (a + i)))
 zeros_add zero b f =
     let e : zero + b ≡ b = omega arith in
     rw e (ap zeros (rows_same b f (λ i. f (0 + i)) (λ r h. ap f (omega arith))) ∙ omega arith)

@@ -4,3 +4,4 @@ pub mod Collected
 pub mod Lending
 pub mod Planned
 pub mod Bodies
+pub mod Telling

@@ -6,6 +6,7 @@ use Rattle.recording.specs.declared.options.IpcWriteOptions.{IpcWriteOptions}
 use Rattle.recording.specs.declared.recording.Recording.{Recording}
 use Rattle.recording.specs.Alignments.{alignment_number}
 use Rattle.recording.specs.ColumnPlaces.{ColumnsFound}
+use Rattle.recording.specs.View.{bytes_in}
 use Rattle.dictionaries.specs.declared.tracker.DictionaryTracker.{DictionaryTracker}
 use Rattle.dictionaries.specs.Batches.{AreMet, updates_of_batch, kept_after}
 use Rattle.dictionaries.specs.Tracking.{kept_windows}
@@ -13,15 +14,18 @@ use Rattle.dictionaries.specs.declared.update.MetDictionary.{MetDictionary}
 use Rattle.columns.specs.declared.memory.Memory.{Memory}
 use Rattle.columns.specs.Memories as memory
 use Rattle.columns.specs.Plans.{messages_of}
+use Rattle.columns.specs.Telling.{Tells}
 use Rattle.orders.specs.declared.call.Batch.{Batch}
 use Rattle.pack.specs.declared.plan.PlannedBatch.{PlannedBatch}
 
--- its dictionaries are those that its columns meet, the memories hold its messages, and the new values are kept
+-- its dictionaries are those that its columns meet, the memories hold its messages and tell what is sent, and the new values
+-- are kept
 pub record IsPlanned (rec : Recording) (o : IpcWriteOptions) (b : Batch) (t u : DictionaryTracker) (before after : Memory) (p : PlannedBatch) : Type 0 where
   pub columns : Columns
   pub found : ColumnsFound rec b.first b.columns b.rows (Ok columns)
   pub met : AreMet o (kept_windows t) columns p.met.items
   pub planned : memory.Planned (alignment_number o.alignment) (messages_of columns p.met.items) before after p.messages
+  pub told : Tells (alignment_number o.alignment) (bytes_in rec) (messages_of columns p.met.items) after p.messages
   pub kept : kept_windows u ≡ kept_after (kept_windows t) p.met.items
 
 -- a memory is too short for the messages of its columns and of the dictionaries that they meet

@@ -1,58 +1,8 @@
-//! The body of a message.
-ghost use Rattle.std.specs.Prelude.{◌≡◌, ◌<◌, map, Some, IfOk, IfSome};
-ghost use Rattle.layout.specs.Messages.{body};
-ghost use Rattle.pack.specs.Bodies.{IsSource, bytes_of, hex_shown, body_shown};
+//! What is printed of a body.
+ghost use Rattle.std.specs.Prelude.{Some};
+ghost use Rattle.pack.specs.Bodies.{hex_shown, body_shown};
 
-use columns::{BufferEntry, EncodedBuffer};
-use std::alloc::Global;
-use std::{fmt, io};
-
-/// The two runs that the bytes of buffers are in.
-#[derive(Clone, Copy)]
-pub(crate) struct Sources<'a> {
-    pub recording: &'a [u8],
-    pub work: &'a [u8],
-}
-
-impl<'a> Sources<'a> {
-    /// The bytes of a buffer, where the run that it names has them.
-    fn find(&self, entry: &BufferEntry) -> Option<&'a [u8]>
-        ensures { IfSome result (λ bytes. IsSource self.now entry.now bytes.now) }
-    {
-        let (run, place) = match entry.source {
-            EncodedBuffer::Recording(place) => (self.recording, place),
-            EncodedBuffer::Work(place) => (self.work, place),
-        };
-        let (_, from) = run.split_at_checked(place as usize)?;
-        let (bytes, _) = from.split_at_checked(usize::try_from(entry.buffer.length).ok()?)?;
-        Some(bytes)
-    }
-
-    /// The body that buffers make, each with the zeros that fill it up to a multiple of the alignment.
-    pub(crate) fn body(
-        &self,
-        heap: Global,
-        buffers: &[BufferEntry],
-        alignment: usize,
-    ) -> io::Result<Vec<u8>>
-        requires { 0 < alignment }
-        ensures { IfOk result (λ made. made.items ≡ body alignment (map (bytes_of self.now) buffers.now)) }
-    {
-        let mut made = Vec::new(heap);
-        for entry in buffers {
-            let bytes = self.find(entry).ok_or_else(missing)?;
-            let padding = (alignment - bytes.len() % alignment) % alignment;
-            made.extend_from_slice(bytes)?;
-            made.extend_from_slice(&vec![in heap; 0; padding]?)?;
-        }
-        Ok(made)
-    }
-}
-
-/// What a plan leaves has all that its messages and its records name. This is not proved here.
-pub(crate) fn missing() -> io::Error {
-    io::Error::other("a message names what its plan lacks")
-}
+use std::fmt;
 
 /// The line of a body, in hex.
 #[derive(Clone, Copy)]

@@ -1,5 +1,6 @@
 //! What is printed of the calls of a case.
-ghost use Rattle.std.specs.Prelude.{MatchResult};
+ghost use Rattle.std.specs.Prelude.{◌≡◌, MatchResult};
+ghost use Rattle.recording.specs.View.{bytes_in};
 ghost use Rattle.pack.specs.Collected.{IsCollected, IsRefused};
 
 use crate::memory::MOST;
@@ -18,6 +19,7 @@ pub(crate) struct Opened<'a> {
     pub recording: Recording<'a>,
     pub bytes: &'a [u8],
     pub options: IpcWriteOptions,
+    ghost same: { bytes_in recording ≡ bytes.now },
 }
 
 /// Makes the calls of a case in their order, and prints what each answers.

@@ -9,6 +9,7 @@ mod message;
 mod plan;
 mod sample;
 mod show;
+mod told;
 mod update;
 mod value;
 

@@ -2,11 +2,10 @@
 ghost use Rattle.std.specs.Prelude.{MatchResult};
 ghost use Rattle.pack.specs.Planned.{IsPlanned, IsUnplanned};
 
-use crate::body::{BodyLine, Sources, missing};
 use crate::calls::{Opened, show_fault, show_met};
 use crate::memory::Memories;
-use crate::message::{BufferPairs, FieldPairs, MessageLine};
-use columns::{BufferEntry, FieldRecord, Memory, plan_batch};
+use crate::told::tell_messages;
+use columns::{Memory, plan_batch};
 use dictionaries::{DictionaryTracker, MetDictionaries};
 use layout::Fault;
 use orders::{Batch, MemorySizes};
@@ -70,40 +69,15 @@ fn plan(
     Ok(PlannedBatch { met, messages })
 }
 
-// Prints the messages that stand at the front of the memories, each with the records and the bytes that are its own.
+// Prints the messages that stand at the front of the memories.
 fn show_messages(
     rt: &(impl Print + AllocGlobal),
     opened: &Opened,
     memory: &Memory,
     count: usize,
 ) -> io::Result<()> {
-    let sources = Sources {
-        recording: opened.bytes,
-        work: memory.work,
-    };
-    let alignment = opened.options.alignment();
-    let (mut fields, mut buffers): (&[FieldRecord], &[BufferEntry]) = (
-        memory.fields,
-        memory.buffers,
-    );
-    for (index, message) in memory.messages.iter().take(count).enumerate() {
-        let (own_fields, later_fields) = front(fields, message.fields)?;
-        let (own_buffers, later_buffers) = front(buffers, message.buffers)?;
-        let line = MessageLine {
-            index,
-            message: *message,
-            fields: FieldPairs(own_fields),
-            buffers: BufferPairs(own_buffers),
-        };
-        println!(rt; "{line}")?;
-        let body = sources.body(rt.alloc(), own_buffers, alignment)?;
-        println!(rt; "{}", BodyLine(&body))?;
-        (fields, buffers) = (later_fields, later_buffers);
+    for told in tell_messages(rt.alloc(), opened, memory, count)?.iter() {
+        println!(rt; "{told}")?;
     }
     Ok(())
-}
-
-// So many items, and those after them.
-fn front<T>(items: &[T], count: usize) -> io::Result<(&[T], &[T])> {
-    items.split_at_checked(count).ok_or_else(missing)
 }

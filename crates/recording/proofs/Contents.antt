@@ -11,15 +11,16 @@ use Rattle.layout.specs.declared.kind.Kind.{Kind}
 use Rattle.layout.specs.declared.kind.Kind.TheVariants.{Null, Boolean, Fixed, Bytes32, Bytes64, List32, List64, Struct, Dictionary}
 use Rattle.layout.specs.declared.node.Node.{Node}
 use Rattle.layout.specs.declared.number.Width.{Width}
-use Rattle.layout.specs.Bits.{bit_at}
-use Rattle.layout.specs.BitSlices.{bit_in, IsPart}
+use Rattle.layout.specs.Bits.{bit_at, zeros}
+use Rattle.layout.specs.BitSlices.{bit_in, bits_in, IsPart}
 use Rattle.layout.specs.Kinds.{has_bitmap}
-use Rattle.layout.specs.Lists.{cut}
+use Rattle.layout.specs.Lists.{cut, rows}
+use Rattle.layout.specs.Messages.{own_field}
 use Rattle.layout.specs.Nodes.{bitmap_of}
 use Rattle.layout.specs.Numbers.{wide, unle}
-use Rattle.layout.specs.Rows.{mark_in, mark_at, slot_at, offset_at}
+use Rattle.layout.specs.Rows.{mark_in, mark_at, slot_at, offset_at, nulls_in}
 use Rattle.layout.specs.Rules.{Is, HasOffsets, ChildrenFit, Placed}
-use Rattle.layout.specs.Windows.{passed_count}
+use Rattle.layout.specs.Windows.{shown_in, passed_count}
 use Rattle.layout.proofs.Facts.{one_kind, fixed_lie, keys_lie, offsets_lie}
 use Rattle.layout.proofs.Kids.{one_child}
 use Rattle.layout.proofs.Lists.{length_cut, cut_cut}
@@ -33,7 +34,7 @@ use Rattle.recording.specs.Passing.{IsChild, AreContents}
 use Rattle.recording.specs.RowBits as bits
 use Rattle.recording.specs.Windows.{window_in, HasStrings}
 use Rattle.recording.proofs.Reading.{rules_at, one_width, few, placed, has_offsets}
-use Rattle.recording.proofs.WindowFacts.{string_ends}
+use Rattle.recording.proofs.WindowFacts.{string_ends, nulls_of_window}
 
 -- ---- the numbers of a range that pass, from the first on
 
@@ -140,6 +141,17 @@ module _ (w : Window) where
           ∙ sym (valid_bit (Some p) place r);
       kind = λ j at. sym (ap has_bitmap (one_kind n k j is at)) ∙ e;
     }
+
+-- as many are null as bits are 0
+pub nulls_marked : (w : Window) (bits : BitSlice) → AreMarks w bits → zeros (bits_in bits) ≡ (own_field (shown_in (window_in w))).nulls
+nulls_marked w bits h =
+    let m = numbers_of w.node in
+    nulls_of_window w (zeros (bits_in bits))
+    (λ k is.
+    ap (λ (bs : List ℕ). zeros (rows bits.len (λ i. bit_at bs (bits.first + i)))) h.bytes
+    ∙ ap₂ (nulls_in (run_of w.node) (Some h.place)) h.first h.count
+    ∙ ap (λ (o : Option ℕ). nulls_in (run_of w.node) o (m.from + w.first) w.rows) (sym h.bitmap)
+    ∙ ap (λ (b : Bool). cond b (nulls_in (run_of w.node) (bitmap_of m) (m.from + w.first) w.rows) w.rows) (sym (h.kind k is)))
 
 -- ---- runs of a window
 

@@ -1,4 +1,6 @@
-ghost use Rattle.std.specs.Prelude.{◌+◌, ◌≤◌};
+ghost use Rattle.std.specs.Prelude.{◌≡◌, ◌+◌, ◌≤◌, nat_lt};
+ghost use Rattle.layout.specs.Bits.{zeros};
+ghost use Rattle.layout.specs.BitSlices.{bits_in};
 ghost use Rattle.recording.specs.NodeRefs.{numbers_of};
 
 use crate::node::{NodeRef, slot_place};
@@ -18,7 +20,7 @@ pub struct Window<'a> {
 }
 
 impl<'a> Window<'a> {
-    ghost use Rattle.std.specs.Prelude.{◌≡◌, ◌*◌, ◌<◌, ◌⊎◌, All, length};
+    ghost use Rattle.std.specs.Prelude.{◌*◌, ◌<◌, ◌⊎◌, All, length};
     ghost use Rattle.layout.specs.Numbers.{wide};
     ghost use Rattle.layout.specs.Messages.{own_field};
     ghost use Rattle.layout.specs.Rules.{Is, HasOffsets};
@@ -225,4 +227,33 @@ impl<'a> Window<'a> {
     {
         self.node.nulls_between(self.first, self.rows)
     }
+
+    /// Whether one of its rows is null, as `null_count` counts them.
+    pub fn has_nulls(&self) -> bool
+        ensures { result ≡ nat_lt 0 (own_field (shown_in (window_in self.now))).nulls }
+    {
+        match self.marks() {
+            Some(marks) => has_zeros(&marks),
+            // All rows are alike, so nothing is read.
+            None => self.null_count() > 0,
+        }
+    }
+}
+
+// How many bits a block has, 4096 bytes of them: few to count where the first are not all 1, and many beside what a block costs.
+const BLOCK: u64 = 32768;
+
+// Whether one of the bits is 0. A block is counted by words, and nothing is read after the first that has a 0.
+fn has_zeros(bits: &BitSlice) -> bool
+    ensures { result ≡ nat_lt 0 (zeros (bits_in bits.now)) }
+{
+    let mut from = 0;
+    while from < bits.len {
+        let block = bits.part(from, (bits.len - from).min(BLOCK));
+        if block.count_zeros() > 0 {
+            return true;
+        }
+        from += block.len;
+    }
+    false
 }

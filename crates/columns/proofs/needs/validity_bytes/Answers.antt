@@ -1,5 +1,5 @@
-use Rattle.std.proofs.Common.{ap, sym, refl, ◌∙◌, arith}
-use Rattle.std.proofs.lemmas.Bool.{ne_eqb}
+use Rattle.std.proofs.Common.{◌≡◌, ap, sym, refl, ◌∙◌, arith}
+use Rattle.std.proofs.lemmas.Bool.{ltb-true, ltb-false, ne_eqb}
 use Rattle.layout.specs.Bits.{bytes_for}
 use Rattle.layout.specs.Messages.{own_field}
 use Rattle.layout.specs.Windows.{shown_in}
@@ -14,16 +14,20 @@ returns-then-not-has_bitmap-clause-value c =
     let v = c.args.window.now in
     sym (long_null _ (own_field (shown_in (window_in v))).nulls (bytes_for v.rows) _ (validity_long v c.args.kind c.requires _ refl) (sym c.has_bitmap.ensures ∙ c.if-not-has_bitmap.true))
 
-pub returns-then-null_count-eq0-clause-value : goal.returns-then-null_count-eq0-clause-value
-returns-then-null_count-eq0-clause-value c =
+pub returns-then-not-has_nulls-clause-value : goal.returns-then-not-has_nulls-clause-value
+returns-then-not-has_nulls-clause-value c =
     let v = c.args.window.now in
-    sym (long_none _ _ _ _ (validity_long v c.args.kind c.requires c.null_count.result c.null_count.ensures) c.if-null_count-eq0.true)
+    let nulls = (own_field (shown_in (window_in v))).nulls in
+    let none : nulls ≡ 0 = omega (arith, ltb-false 0 nulls (sym c.has_nulls.ensures ∙ c.if-not-has_nulls.true)) in
+    sym (long_none _ _ _ _ (validity_long v c.args.kind c.requires nulls refl) none)
 
 pub returns-clause-value : goal.returns-clause-value
 returns-clause-value c =
     let v = c.args.window.now in
+    let nulls = (own_field (shown_in (window_in v))).nulls in
+    let some = ltb-true 0 nulls (sym c.has_nulls.ensures ∙ c.if-not-has_nulls.false) in
     c.bytes_for.ensures ∙ ap bytes_for c.rows.ensures
-    ∙ sym (long_some _ _ _ _ (validity_long v c.args.kind c.requires c.null_count.result c.null_count.ensures) (sym c.has_bitmap.ensures ∙ c.if-not-has_bitmap.false) (ne_eqb c.null_count.result 0 c.if-null_count-eq0.false))
+    ∙ sym (long_some _ _ _ _ (validity_long v c.args.kind c.requires nulls refl) (sym c.has_bitmap.ensures ∙ c.if-not-has_bitmap.false) (ne_eqb nulls 0 (λ z. absurd (omega arith))))
 
 pub returns-clause-few : goal.returns-clause-few
 returns-clause-few c =

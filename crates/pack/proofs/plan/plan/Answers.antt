@@ -21,5 +21,6 @@ returns c =
       found = c.in_ok-columns.ensures;
       met = c.in_ok-met.ensures.met;
       planned = search rules;
+      told = search rules;
       kept = search rules;
     }
