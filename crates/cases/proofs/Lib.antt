@@ -1,3 +1,4 @@
 pub mod Openings
 pub mod Sent
 pub mod Updates
+pub mod Framed

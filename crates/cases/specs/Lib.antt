@@ -1,3 +1,4 @@
 pub mod Openings
 pub mod WindowCases
 pub mod DictionaryCases
+pub mod FrameCases

@@ -4,9 +4,14 @@
 ghost use Rattle.cases.specs.Openings.{Openings};
 ghost use Rattle.cases.specs.WindowCases.{WindowCases};
 ghost use Rattle.cases.specs.DictionaryCases.{DictionaryCases};
+ghost use Rattle.cases.specs.FrameCases.{FrameCases};
 
 #[cfg(test)]
 mod collecting;
+#[cfg(test)]
+mod frames_table;
+#[cfg(test)]
+mod framing;
 #[cfg(test)]
 mod options;
 #[cfg(test)]
@@ -33,4 +38,9 @@ pub fn window_cases_stand()
 /// The dictionaries of specs/DictionaryCases.antt have the updates that it says there.
 pub fn dictionary_cases_stand()
     ensures { DictionaryCases }
+{}
+
+/// The frames of specs/FrameCases.antt are as it says there.
+pub fn frame_cases_stand()
+    ensures { FrameCases }
 {}

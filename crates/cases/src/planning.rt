@@ -43,7 +43,7 @@ const METADATA: u8 = 0x5a;
 
 /// How long the five memories are.
 #[derive(Clone, Copy)]
-struct Lengths {
+pub(crate) struct Lengths {
     fields: usize,
     buffers: usize,
     messages: usize,
@@ -53,7 +53,7 @@ struct Lengths {
 
 impl Lengths {
     // The needs of a line.
-    fn parse(heap: Global, text: &str) -> Result<Lengths, Fail> {
+    pub(crate) fn parse(heap: Global, text: &str) -> Result<Lengths, Fail> {
         match numbers(heap, text)?.as_slice() {
             [fields, buffers, messages, work] => Ok(Lengths {
                 fields: *fields as usize,
@@ -67,7 +67,7 @@ impl Lengths {
     }
 
     // The same with one of them shorter by one, where it is not 0.
-    fn shorter(self, column: u64) -> Option<Lengths> {
+    pub(crate) fn shorter(self, column: u64) -> Option<Lengths> {
         let mut lengths = self;
         match column {
             0 => lengths.fields = lengths.fields.checked_sub(1)?,
@@ -80,7 +80,7 @@ impl Lengths {
     }
 
     // The same with some more of each.
-    fn longer(self) -> Lengths {
+    pub(crate) fn longer(self) -> Lengths {
         Lengths {
             fields: self.fields.saturating_add(3),
             buffers: self.buffers.saturating_add(2),
@@ -103,16 +103,16 @@ fn is_left<T: PartialEq + Copy>(items: &[T], used: usize, before: T) -> bool {
 
 /// The five memories.
 #[derive(Drop, PartialEq)]
-struct Lent {
+pub(crate) struct Lent {
     fields: Vec<FieldRecord>,
     buffers: Vec<BufferEntry>,
-    messages: Vec<Message>,
+    pub messages: Vec<Message>,
     work: Vec<u8>,
-    metadata: Vec<u8>,
+    pub metadata: Vec<u8>,
 }
 
 impl Lent {
-    fn new(heap: Global, lengths: Lengths) -> Result<Lent, Fail> {
+    pub(crate) fn new(heap: Global, lengths: Lengths) -> Result<Lent, Fail> {
         Ok(Lent {
             fields: vec![in heap; FIELD; lengths.fields]?,
             buffers: vec![in heap; BUFFER; lengths.buffers]?,
@@ -122,7 +122,7 @@ impl Lent {
         })
     }
 
-    fn memory(&mut self) -> Memory<'_> {
+    pub(crate) fn memory(&mut self) -> Memory<'_> {
         Memory {
             fields: self.fields.as_mut_slice(),
             buffers: self.buffers.as_mut_slice(),
@@ -238,7 +238,7 @@ impl Told {
 
 /// A batch: its first node, how many columns it has, and its rows.
 #[derive(Clone, Copy)]
-struct Batch {
+pub(crate) struct Batch {
     first: usize,
     columns: u64,
     rows: u64,
@@ -255,6 +255,38 @@ impl Batch {
             _ => Err(Fail::from("a batch has three numbers")),
         }
     }
+
+    pub(crate) fn parse_all(heap: Global, text: &str) -> Result<Vec<Batch>, Fail> {
+        let mut batches = Vec::new(heap);
+        for batch in text.split(',') {
+            batches.push(Batch::parse(heap, batch)?)?;
+        }
+        Ok(batches)
+    }
+}
+
+pub(crate) fn options(alignment: usize) -> Result<IpcWriteOptions, Fail> {
+    Ok(IpcWriteOptions::try_new(alignment)?.with_dictionary_handling(DictionaryHandling::Delta))
+}
+
+// The columns of the last of these batches, and the dictionaries that it meets after those before it are kept.
+pub(crate) fn last_batch<'a>(
+    recording: &Recording<'a>,
+    batches: &[Batch],
+    options: &IpcWriteOptions,
+) -> Result<(Columns<'a>, MetDictionaries), Fail> {
+    let mut tracker = DictionaryTracker::new();
+    for _ in 0..64 {
+        let _id = tracker.next_dict_id()?;
+    }
+    let mut last = None;
+    for batch in batches {
+        let columns = recording.columns(batch.first, batch.columns, batch.rows)?;
+        let met = tracker.collect_all_dicts(&columns, options)?;
+        tracker.keep(&met);
+        last = Some((columns, met));
+    }
+    Ok(last.ok_or("no batch")?)
 }
 
 /// A line of the table.
@@ -280,10 +312,6 @@ impl<'x> Plan<'x> {
         let (run, line) = line.split_once('|').ok_or("no other bytes")?;
         let (other, line) = line.split_once('|').ok_or("no needs")?;
         let (needs, line) = line.split_once('|').ok_or("no messages")?;
-        let mut all = Vec::new(heap);
-        for batch in batches.split(',') {
-            all.push(Batch::parse(heap, batch)?)?;
-        }
         let mut messages = Vec::new(heap);
         for message in line.split('/') {
             messages.push(Told::parse(heap, message)?)?;
@@ -291,7 +319,7 @@ impl<'x> Plan<'x> {
         Ok(Plan {
             line: whole,
             alignment: alignment.trim().parse::<usize>()?,
-            batches: all,
+            batches: Batch::parse_all(heap, batches)?,
             nodes: nodes(heap, table)?,
             run: bytes(heap, run)?,
             other: bytes(heap, other)?,
@@ -300,36 +328,11 @@ impl<'x> Plan<'x> {
         })
     }
 
-    fn options(&self) -> Result<IpcWriteOptions, Fail> {
-        Ok(IpcWriteOptions::try_new(self.alignment)?.with_dictionary_handling(
-            DictionaryHandling::Delta,
-        ))
-    }
-
-    // The columns of the last batch, and the dictionaries that it meets after those before it are kept.
-    fn last_batch<'a>(
-        &self,
-        recording: &Recording<'a>,
-    ) -> Result<(Columns<'a>, MetDictionaries), Fail> {
-        let options = self.options()?;
-        let mut tracker = DictionaryTracker::new();
-        for _ in 0..64 {
-            let _id = tracker.next_dict_id()?;
-        }
-        let mut last = None;
-        for batch in self.batches.iter() {
-            let columns = recording.columns(batch.first, batch.columns, batch.rows)?;
-            let met = tracker.collect_all_dicts(&columns, &options)?;
-            tracker.keep(&met);
-            last = Some((columns, met));
-        }
-        Ok(last.ok_or("no batch")?)
-    }
-
     // What the last batch answers in this memory.
     fn answer(&self, recording: &Recording, lent: &mut Lent) -> Result<Result<usize, Fault>, Fail> {
-        let (columns, met) = self.last_batch(recording)?;
-        Ok(plan_batch(&columns, &met, &self.options()?, &mut lent.memory()))
+        let options = options(self.alignment)?;
+        let (columns, met) = last_batch(recording, self.batches.as_slice(), &options)?;
+        Ok(plan_batch(&columns, &met, &options, &mut lent.memory()))
     }
 
     // The messages are as the line says.

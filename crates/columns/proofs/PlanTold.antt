@@ -24,17 +24,17 @@ messages_inside c ms =
 
 -- ---- no memory is too short
 
-record Room (fields buffers messages work : ℕ) (m : Memory) : Type 0 where
-  some_fields : fields ≤ length m.fields.now
-  some_buffers : buffers ≤ length m.buffers.now
-  some_messages : messages ≤ length m.messages.now
-  some_work : work ≤ length m.work.now
+pub record Room (fields buffers messages work : ℕ) (m : Memory) : Type 0 where
+  pub some_fields : fields ≤ length m.fields.now
+  pub some_buffers : buffers ≤ length m.buffers.now
+  pub some_messages : messages ≤ length m.messages.now
+  pub some_work : work ≤ length m.work.now
 
 not_short : (b : Bool) (k : ℕ) (o : Option ℕ) → cond b (Some k) o ≡ None → (b ≡ false) × (o ≡ None)
 not_short false k o e = (refl, e)
 not_short true k o e = absurd (none-some k (sym e))
 
-room : (fields buffers messages work : ℕ) (m : Memory) → short_by fields buffers messages work m ≡ None → Room fields buffers messages work m
+pub room : (fields buffers messages work : ℕ) (m : Memory) → short_by fields buffers messages work m ≡ None → Room fields buffers messages work m
 room fields buffers messages work m e =
     let f = not_short (nat_lt (length m.fields.now) fields) 0 _ e in
     let b = not_short (nat_lt (length m.buffers.now) buffers) 1 _ f.1 in

@@ -74,7 +74,7 @@ module _ (al k : ℕ) (bs work rest : List ℕ) (m : ToSend) (h : AllOf bs m.col
   read_records : map buffer_read own ≡ records al 0 (buffers_all (shown_side m.columns))
   read_records = buffers_read al 0 k bs (message_pieces m) (side_within bs m.columns h) ∙ ap (records al 0) (side_bytes bs m.columns h)
 
-  pub told_one : (fs : List FieldRecord) (es : List BufferEntry) → told al bs work (message_fields m ++ fs) (own ++ es) (message_entry al m) ≡ sent_as al m
+  pub told_one : (fs : List FieldRecord) (es : List BufferEntry) → told bs work (message_fields m ++ fs) (own ++ es) (message_entry al m) ≡ sent_as al m
   told_one fs es =
       let taken = ap (λ (j : ℕ). take j (own ++ es)) (sym (length-entries al 0 k (message_pieces m))) ∙ take-append_seam own es in
       let fields = ap (map field_read) (take-append_seam (message_fields m) fs) ∙ side_read m.columns in
@@ -95,7 +95,7 @@ next_entries : (al k : ℕ) (m : ToSend) (es : List BufferEntry) → drop (lengt
 next_entries al k m es = ap (λ (j : ℕ). drop j (entries al 0 k (message_pieces m) ++ es)) (sym (length-entries al 0 k (message_pieces m))) ∙ drop-append_seam (entries al 0 k (message_pieces m)) es
 
 pub all_told : (al k : ℕ) (bs work rest : List ℕ) (ms : List ToSend) → AllInside bs ms → drop k work ≡ work_of (all_pieces ms) ++ rest → (fs : List FieldRecord) (es : List BufferEntry)
-    → told_all al bs work (all_fields ms ++ fs) (all_entries al k ms ++ es) (map (message_entry al) ms) ≡ map (sent_as al) ms
+    → told_all bs work (all_fields ms ++ fs) (all_entries al k ms ++ es) (map (message_entry al) ms) ≡ map (sent_as al) ms
 all_told al k bs work rest [] h e fs es = refl
 all_told al k bs work rest (m ∷ ms) h e fs es =
     let own = entries al 0 k (message_pieces m) in
@@ -104,9 +104,9 @@ all_told al k bs work rest (m ∷ ms) h e fs es =
     let parts = e ∙ ap (λ (x : List ℕ). x ++ rest) (work_of-append (message_pieces m) (all_pieces ms)) ∙ append_assoc made (work_of (all_pieces ms)) rest in
     let next = sym (drop-drop (length made) k work) ∙ ap (drop (length made)) parts ∙ drop-append_seam made (work_of (all_pieces ms) ++ rest) in
     let late = all_told al after bs work rest ms h.1 next fs es in
-    ap₂ (λ (f : List FieldRecord) (b : List BufferEntry). told_all al bs work f b (map (message_entry al) (m ∷ ms))) (append_assoc (message_fields m) (all_fields ms) fs) (append_assoc own (all_entries al after ms) es)
+    ap₂ (λ (f : List FieldRecord) (b : List BufferEntry). told_all bs work f b (map (message_entry al) (m ∷ ms))) (append_assoc (message_fields m) (all_fields ms) fs) (append_assoc own (all_entries al after ms) es)
     ∙ ap₂ (λ (t : Told) (ts : List Told). t ∷ ts) (told_one al k bs work (work_of (all_pieces ms) ++ rest) m h.0 parts (all_fields ms ++ fs) (all_entries al after ms ++ es))
-    (ap₂ (λ (f : List FieldRecord) (b : List BufferEntry). told_all al bs work f b (map (message_entry al) ms)) (drop-append_seam (message_fields m) (all_fields ms ++ fs)) (next_entries al k m (all_entries al after ms ++ es)) ∙ late)
+    (ap₂ (λ (f : List FieldRecord) (b : List BufferEntry). told_all bs work f b (map (message_entry al) ms)) (drop-append_seam (message_fields m) (all_fields ms ++ fs)) (next_entries al k m (all_entries al after ms ++ es)) ∙ late)
 
 -- ---- they are read back
 
@@ -125,7 +125,7 @@ at_first ys xs l = over_is ys xs 0 (omega (arith, l)) ∙ ap (λ (k : ℕ). ys +
 
 pub told_in : (al : ℕ) (bs : List ℕ) (ms : List ToSend) → AllInside bs ms → (fs : List FieldRecord) (es : List BufferEntry) (ns : List Message) (work : List ℕ)
     → length (all_fields ms) ≤ length fs → length (all_pieces ms) ≤ length es → length ms ≤ length ns → length (work_of (all_pieces ms)) ≤ length work
-    → told_all al bs (over work 0 (work_of (all_pieces ms))) (over fs 0 (all_fields ms)) (over es 0 (all_entries al 0 ms)) (take (length ms) (over ns 0 (map (message_entry al) ms))) ≡ map (sent_as al) ms
+    → told_all bs (over work 0 (work_of (all_pieces ms))) (over fs 0 (all_fields ms)) (over es 0 (all_entries al 0 ms)) (take (length ms) (over ns 0 (map (message_entry al) ms))) ≡ map (sent_as al) ms
 told_in al bs ms h fs es ns work f e n w =
     let entries_long = length-all_entries al 0 ms in
     let taken = ap (take (length ms)) (at_first (map (message_entry al) ms) ns (omega (arith, n, length-map ms (message_entry al)))) ∙ ap (λ (k : ℕ). take k (map (message_entry al) ms ++ drop (length (map (message_entry al) ms)) ns)) (sym (length-map ms (message_entry al))) ∙ take-append_seam (map (message_entry al) ms) _ in

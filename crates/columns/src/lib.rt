@@ -20,3 +20,4 @@ pub use message::{Message, MessageKind};
 pub use plan::plan_batch;
 pub use reader::{Records, Sources};
 pub use record::{BufferEntry, BufferRecord, EncodedBuffer, FieldRecord};
+pub use writer::pad_to_alignment;

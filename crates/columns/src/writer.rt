@@ -229,7 +229,7 @@ fn field_record(window: &Window, nulls: u64) -> FieldRecord
 }
 
 /// How many bytes after so many fill them up to a multiple of the alignment.
-pub(crate) fn pad_to_alignment(alignment: usize, len: u64) -> u64
+pub fn pad_to_alignment(alignment: usize, len: u64) -> u64
     requires { 0 < alignment }
     ensures value { result ≡ padding alignment len }
     ensures few { result < alignment }

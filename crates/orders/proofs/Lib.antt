@@ -5,4 +5,5 @@ mod Growth
 mod Lines
 mod Numbers
 mod Pairs
+mod Sinks
 mod Verbs

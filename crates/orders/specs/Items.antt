@@ -11,12 +11,16 @@ use Rattle.orders.specs.declared.call.Call.TheVariants as call
 use Rattle.orders.specs.declared.call.MemorySizes.{MemorySizes}
 use Rattle.orders.specs.declared.error.Why.{Why}
 use Rattle.orders.specs.declared.error.Why.TheVariants.{UnknownItem, MissingWord, NotText, UnknownWord, Memory}
+use Rattle.orders.specs.declared.framing.FormName.{FormName}
+use Rattle.orders.specs.declared.framing.FormName.TheVariants.{Numbers, Supplied}
+use Rattle.orders.specs.declared.framing.SinkSizes.{SinkSizes}
+use Rattle.orders.specs.declared.framing.SinkSizes.TheVariants as sink
 use Rattle.orders.specs.declared.item.Item.{Item}
 use Rattle.orders.specs.declared.item.Item.TheVariants as item
 use Rattle.orders.specs.declared.item.Part.{Part}
-use Rattle.orders.specs.declared.item.Part.TheVariants.{Nodes, Bytes}
+use Rattle.orders.specs.declared.item.Part.TheVariants.{Nodes, Bytes, Held}
 use Rattle.orders.specs.declared.item.Verb.{Verb}
-use Rattle.orders.specs.declared.item.Verb.TheVariants.{Case, Node, Hex, File, Align, Handling, ErrorOnReplacement, Show, Id, Collect, Lend, Plan}
+use Rattle.orders.specs.declared.item.Verb.TheVariants.{Case, Node, Hex, File, Align, Handling, ErrorOnReplacement, Form, Meta, Sink, Out, Show, Id, Collect, Lend, Plan, Frame}
 use Rattle.orders.specs.Texts.{is_empty, uncommented, word_in, after_word, at_end, only_word}
 use Rattle.orders.specs.Numbers.{number_read}
 use Rattle.orders.specs.Hexes.{hex_read}
@@ -97,6 +101,35 @@ flag_of w = cond (bytes_eq w (codes "0")) (Some false) (cond (bytes_eq w (codes 
 abbrev pub flag_read : List ℕ → Result Bool Why
 flag_read text = chosen flag_of (only_word text)
 
+abbrev pub form_of : List ℕ → Option FormName
+form_of w = cond (bytes_eq w (codes "numbers")) (Some Numbers) (cond (bytes_eq w (codes "supplied")) (Some Supplied) None)
+
+abbrev pub form_read : List ℕ → Result FormName Why
+form_read text = chosen form_of (only_word text)
+
+-- ---- a word and numbers
+
+abbrev pub bytes_from : List ℕ → SinkSizes
+bytes_from ns = sink.Bytes (slice_index ns 0)
+
+abbrev pub bytes_sink_read : List ℕ → Result SinkSizes Why
+bytes_sink_read text = map_ok bytes_from (numbers_in 1 text)
+
+abbrev pub buffers_from : List ℕ → SinkSizes
+buffers_from ns = sink.Buffers (slice_index ns 0) (slice_index ns 1)
+
+abbrev pub buffers_sink_read : List ℕ → Result SinkSizes Why
+buffers_sink_read text = map_ok buffers_from (numbers_in 2 text)
+
+-- the sizes that follow the word for a kind of sink
+abbrev pub sink_of : List ℕ → List ℕ → Result SinkSizes Why
+sink_of kind rest =
+    cond (bytes_eq kind (codes "bytes")) (bytes_sink_read rest)
+    (cond (bytes_eq kind (codes "buffers")) (buffers_sink_read rest) (Err UnknownWord))
+
+abbrev pub sink_read : List ℕ → Result SinkSizes Why
+sink_read text = cond (is_empty (word_in text)) (Err MissingWord) (sink_of (word_in text) (after_word text))
+
 -- ---- no word more
 
 abbrev pub id_read : List ℕ → Result Call Why
@@ -116,11 +149,17 @@ verb_of w =
     (cond (bytes_eq w (codes "align")) (Some Align)
     (cond (bytes_eq w (codes "handling")) (Some Handling)
     (cond (bytes_eq w (codes "error_on_replacement")) (Some ErrorOnReplacement)
+    (cond (bytes_eq w (codes "form")) (Some Form)
+    (cond (bytes_eq w (codes "meta")) (Some Meta)
+    (cond (bytes_eq w (codes "sink")) (Some Sink)
+    (cond (bytes_eq w (codes "held")) (Some (Hex Held))
+    (cond (bytes_eq w (codes "out")) (Some Out)
     (cond (bytes_eq w (codes "show")) (Some Show)
     (cond (bytes_eq w (codes "id")) (Some Id)
     (cond (bytes_eq w (codes "collect")) (Some Collect)
     (cond (bytes_eq w (codes "memory")) (Some Lend)
-    (cond (bytes_eq w (codes "plan")) (Some Plan) None)))))))))))))
+    (cond (bytes_eq w (codes "plan")) (Some Plan)
+    (cond (bytes_eq w (codes "frame")) (Some Frame) None)))))))))))))))))))
 
 abbrev pub verb_read : List ℕ → Result Verb Why
 verb_read w = ok_or (verb_of w) UnknownItem
@@ -134,6 +173,10 @@ pub data Saying : Type 0 where
   an_alignment : ℕ → Saying
   a_handling : DictionaryHandling → Saying
   an_error_on_replacement : Bool → Saying
+  a_form : FormName → Saying
+  a_meta : List ℕ → Saying
+  a_sink : SinkSizes → Saying
+  an_out : List ℕ → Saying
   a_call : Call → Saying
 
 abbrev pub said : Item → Saying
@@ -144,6 +187,10 @@ said (item.File part path) = a_file part (string_bytes path)
 said (item.Align n) = an_alignment n
 said (item.Handling h) = a_handling h
 said (item.ErrorOnReplacement e) = an_error_on_replacement e
+said (item.Form form) = a_form form
+said (item.Meta header) = a_meta (vec_items header)
+said (item.Sink sizes) = a_sink sizes
+said (item.Out path) = an_out (string_bytes path)
 said (item.Call call) = a_call call
 
 -- a name or a path is text
@@ -155,6 +202,10 @@ IsText (a_file part path) = IsUtf8 path
 IsText (an_alignment n) = Unit {0}
 IsText (a_handling h) = Unit {0}
 IsText (an_error_on_replacement e) = Unit {0}
+IsText (a_form form) = Unit {0}
+IsText (a_meta header) = Unit {0}
+IsText (a_sink sizes) = Unit {0}
+IsText (an_out path) = IsUtf8 path
 IsText (a_call call) = Unit {0}
 
 unfoldable pub rest_read : Verb → List ℕ → Result Saying Why
@@ -165,11 +216,16 @@ rest_read (File part) rest = map_ok (a_file part) (only_word rest)
 rest_read Align rest = map_ok an_alignment (only_number rest)
 rest_read Handling rest = map_ok a_handling (handling_read rest)
 rest_read ErrorOnReplacement rest = map_ok an_error_on_replacement (flag_read rest)
+rest_read Form rest = map_ok a_form (form_read rest)
+rest_read Meta rest = map_ok a_meta (hex_read rest)
+rest_read Sink rest = map_ok a_sink (sink_read rest)
+rest_read Out rest = map_ok an_out (only_word rest)
 rest_read Show rest = map_ok (λ batch. a_call (call.Show batch)) (batch_read rest)
 rest_read Id rest = map_ok a_call (id_read rest)
 rest_read Collect rest = map_ok (λ batch. a_call (call.Collect batch)) (batch_read rest)
 rest_read Lend rest = map_ok (λ sizes. a_call (call.Lend sizes)) (sizes_read rest)
 rest_read Plan rest = map_ok (λ batch. a_call (call.Plan batch)) (batch_read rest)
+rest_read Frame rest = map_ok (λ batch. a_call (call.Frame batch)) (batch_read rest)
 
 abbrev pub item_by : Result Verb Why → List ℕ → Result (Option Saying) Why
 item_by (Err why) rest = Err why

@@ -3,6 +3,7 @@ pub mod Numbers
 pub mod Hexes
 pub mod Items
 pub mod Options
+pub mod Framing
 pub mod Orders
 pub mod Words
 pub mod Adding

@@ -9,12 +9,15 @@ use Rattle.orders.specs.declared.call.Call.{Call}
 use Rattle.orders.specs.declared.error.OrderError.{OrderError}
 use Rattle.orders.specs.declared.error.Why.{Why}
 use Rattle.orders.specs.declared.error.Why.TheVariants.{File, Memory}
+use Rattle.orders.specs.declared.framing.FormName.{FormName}
+use Rattle.orders.specs.declared.framing.SinkSizes.{SinkSizes}
 use Rattle.orders.specs.declared.item.Part.{Part}
-use Rattle.orders.specs.declared.item.Part.TheVariants.{Nodes, Bytes}
+use Rattle.orders.specs.declared.item.Part.TheVariants.{Nodes, Bytes, Held}
 use Rattle.orders.specs.declared.options.Options.{Options}
 use Rattle.orders.specs.Options.{default_options, with_alignment, with_dictionary_handling, with_error_on_replacement}
+use Rattle.orders.specs.Framing.{default_sink, form_by}
 use Rattle.orders.specs.Texts.{lines_in}
-use Rattle.orders.specs.Items.{Saying, a_case, a_node, a_hex, a_file, an_alignment, a_handling, an_error_on_replacement, a_call, item_read, IsTextIn, Refuses}
+use Rattle.orders.specs.Items.{Saying, a_case, a_node, a_hex, a_file, an_alignment, a_handling, an_error_on_replacement, a_form, a_meta, a_sink, an_out, a_call, item_read, IsTextIn, Refuses}
 
 -- ---- cases
 
@@ -24,27 +27,74 @@ pub record Spelled : Type 0 where
   pub nodes : List ℕ
   pub bytes : List ℕ
   pub options : Options
+  pub form : Option FormName
+  pub headers : List (List ℕ)
+  pub sink : SinkSizes
+  pub held : List ℕ
+  pub out : Option (List ℕ)
   pub calls : List Call
 
 abbrev pub spelled : Case → Spelled
-spelled c = record { name = option_map string_bytes c.name; nodes = vec_items c.nodes; bytes = vec_items c.bytes; options = c.options; calls = vec_items c.calls }
+spelled c =
+    record {
+      name = option_map string_bytes c.name;
+      nodes = vec_items c.nodes;
+      bytes = vec_items c.bytes;
+      options = c.options;
+      form = c.form;
+      headers = map vec_items (vec_items c.headers);
+      sink = c.sink;
+      held = vec_items c.held;
+      out = option_map string_bytes c.out;
+      calls = vec_items c.calls;
+    }
 
 abbrev pub cases_in : Vec Case Global → List Spelled
 cases_in cases = map spelled (vec_items cases)
 
 abbrev pub fresh : Option (List ℕ) → Spelled
-fresh name = record { name = name; nodes = []; bytes = []; options = default_options; calls = [] }
+fresh name =
+    record {
+      name = name;
+      nodes = [];
+      bytes = [];
+      options = default_options;
+      form = None;
+      headers = [];
+      sink = default_sink;
+      held = [];
+      out = None;
+      calls = [];
+    }
 
--- one more case, empty so far and with the default options
+-- one more case, empty so far and with the defaults
 abbrev pub started : Option (List ℕ) → List Spelled → List Spelled
 started name cs = cs ++ fresh name ∷ []
 
 abbrev pub appended : Part → List ℕ → Spelled → Spelled
 appended Nodes more c = record c { nodes = c.nodes ++ more }
 appended Bytes more c = record c { bytes = c.bytes ++ more }
+appended Held more c = record c { held = c.held ++ more }
 
 abbrev pub optioned : (Options → Options) → Spelled → Spelled
 optioned f c = record c { options = f c.options }
+
+abbrev pub formed : FormName → Spelled → Spelled
+formed form c = record c { form = Some form }
+
+-- one more header
+abbrev pub headed : List ℕ → Spelled → Spelled
+headed header c = record c { headers = c.headers ++ header ∷ [] }
+
+-- the form that a case's lines say, or else its headers
+abbrev pub header_form : Spelled → FormName
+header_form c = form_by c.form c.headers
+
+abbrev pub sunk : SinkSizes → Spelled → Spelled
+sunk sizes c = record c { sink = sizes }
+
+abbrev pub sent_to : List ℕ → Spelled → Spelled
+sent_to path c = record c { out = Some path }
 
 abbrev pub asked : Call → Spelled → Spelled
 asked call c = record c { calls = c.calls ++ call ∷ [] }
@@ -75,6 +125,10 @@ Does (Some (a_file part path)) cs ds = (bytes : List ℕ) × (ds ≡ of_last (ap
 Does (Some (an_alignment n)) cs ds = ds ≡ of_last (optioned (with_alignment n)) cs
 Does (Some (a_handling h)) cs ds = ds ≡ of_last (optioned (with_dictionary_handling h)) cs
 Does (Some (an_error_on_replacement e)) cs ds = ds ≡ of_last (optioned (with_error_on_replacement e)) cs
+Does (Some (a_form form)) cs ds = ds ≡ of_last (formed form) cs
+Does (Some (a_meta header)) cs ds = ds ≡ of_last (headed header) cs
+Does (Some (a_sink sizes)) cs ds = ds ≡ of_last (sunk sizes) cs
+Does (Some (an_out path)) cs ds = ds ≡ of_last (sent_to path) cs
 Does (Some (a_call call)) cs ds = ds ≡ of_last (asked call) cs
 
 abbrev pub Followed : List ℕ → List Spelled → List Spelled → Type 0

@@ -31,4 +31,6 @@ pub enum Call {
     Lend(MemorySizes),
     /// To plan the messages of a batch.
     Plan(Batch),
+    /// To plan a batch and write its frames.
+    Frame(Batch),
 }

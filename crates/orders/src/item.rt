@@ -1,10 +1,11 @@
 //! What a line of an order says.
 ghost use Rattle.std.specs.Prelude.{◌≡◌, string_bytes, IsUtf8};
 ghost use Rattle.orders.specs.Texts.{only_word};
-ghost use Rattle.orders.specs.Items.{numbers_in, node_read, only_number, handling_read, flag_read, batch_read, sizes_read, id_read, verb_read, said, said_by, rest_read, item_read, IsText, IsTextIn, ReadsText};
+ghost use Rattle.orders.specs.Items.{numbers_in, node_read, only_number, handling_read, flag_read, form_read, bytes_sink_read, buffers_sink_read, sink_read, batch_read, sizes_read, id_read, verb_read, said, said_by, rest_read, item_read, IsText, IsTextIn, ReadsText};
 
 use crate::call::{Batch, Call, MemorySizes};
 use crate::error::Why;
+use crate::framing::{FormName, SinkSizes};
 use crate::hex::read_hex;
 use crate::number::read_number;
 use crate::text::{expect_end, expect_word, only_word, split_word, without_comment};
@@ -13,12 +14,13 @@ use recording::DictionaryHandling;
 use std::alloc::Global;
 use std::str;
 
-/// The two runs of bytes that a case is made of.
+/// The runs of bytes that a case is made of.
 // A word of the order: a closure in its place would have to be made and handed out.
 #[derive(Clone, Copy, Debug, PartialEq, Eq, Hash)]
 pub(crate) enum Part {
     Nodes,
     Bytes,
+    Held,
 }
 
 /// What to do to the cases so far.
@@ -33,6 +35,10 @@ pub(crate) enum Item {
     Align(u64),
     Handling(DictionaryHandling),
     ErrorOnReplacement(bool),
+    Form(FormName),
+    Meta(Vec<u8>),
+    Sink(SinkSizes),
+    Out(String),
     Call(Call),
 }
 
@@ -46,11 +52,16 @@ enum Verb {
     Align,
     Handling,
     ErrorOnReplacement,
+    Form,
+    Meta,
+    Sink,
+    Out,
     Show,
     Id,
     Collect,
     Lend,
     Plan,
+    Frame,
 }
 
 impl TryFrom<&[u8]> for Verb {
@@ -69,11 +80,17 @@ impl TryFrom<&[u8]> for Verb {
             b"align" => Ok(Verb::Align),
             b"handling" => Ok(Verb::Handling),
             b"error_on_replacement" => Ok(Verb::ErrorOnReplacement),
+            b"form" => Ok(Verb::Form),
+            b"meta" => Ok(Verb::Meta),
+            b"sink" => Ok(Verb::Sink),
+            b"held" => Ok(Verb::Hex(Part::Held)),
+            b"out" => Ok(Verb::Out),
             b"show" => Ok(Verb::Show),
             b"id" => Ok(Verb::Id),
             b"collect" => Ok(Verb::Collect),
             b"memory" => Ok(Verb::Lend),
             b"plan" => Ok(Verb::Plan),
+            b"frame" => Ok(Verb::Frame),
             _ => Err(Why::UnknownItem),
         }
     }
@@ -104,11 +121,16 @@ fn read_rest(heap: Global, verb: Verb, rest: &[u8]) -> Result<Item, Why>
         Verb::Align => only_number(rest).map(Item::Align),
         Verb::Handling => read_handling(rest).map(Item::Handling),
         Verb::ErrorOnReplacement => read_flag(rest).map(Item::ErrorOnReplacement),
+        Verb::Form => read_form(rest).map(Item::Form),
+        Verb::Meta => read_hex(heap, rest).map(Item::Meta),
+        Verb::Sink => read_sink(rest).map(Item::Sink),
+        Verb::Out => read_word(heap, rest).map(Item::Out),
         Verb::Show => read_batch(rest).map(|batch| Item::Call(Call::Show(batch))),
         Verb::Id => read_id(rest).map(Item::Call),
         Verb::Collect => read_batch(rest).map(|batch| Item::Call(Call::Collect(batch))),
         Verb::Lend => read_sizes(rest).map(|sizes| Item::Call(Call::Lend(sizes))),
         Verb::Plan => read_batch(rest).map(|batch| Item::Call(Call::Plan(batch))),
+        Verb::Frame => read_batch(rest).map(|batch| Item::Call(Call::Frame(batch))),
     }
 }
 
@@ -155,6 +177,45 @@ fn read_flag(text: &[u8]) -> Result<bool, Why>
         b"1" => Ok(true),
         _ => Err(Why::UnknownWord),
     }
+}
+
+// The header form that the only word names.
+fn read_form(text: &[u8]) -> Result<FormName, Why>
+    ensures { result ≡ form_read text.now }
+{
+    match only_word(text)? {
+        b"numbers" => Ok(FormName::Numbers),
+        b"supplied" => Ok(FormName::Supplied),
+        _ => Err(Why::UnknownWord),
+    }
+}
+
+// The sizes of a sink, of the kind that the first word names.
+fn read_sink(text: &[u8]) -> Result<SinkSizes, Why>
+    ensures { result ≡ sink_read text.now }
+{
+    let (kind, rest) = expect_word(text)?;
+    match kind {
+        b"bytes" => read_bytes_sink(rest),
+        b"buffers" => read_buffers_sink(rest),
+        _ => Err(Why::UnknownWord),
+    }
+}
+
+// The sink of bytes that a number spells, and nothing after it.
+fn read_bytes_sink(text: &[u8]) -> Result<SinkSizes, Why>
+    ensures { result ≡ bytes_sink_read text.now }
+{
+    let [bytes] = read_numbers::<1>(text)?;
+    Ok(SinkSizes::Bytes { bytes })
+}
+
+// The sink of pieces that two numbers spell, and nothing after them.
+fn read_buffers_sink(text: &[u8]) -> Result<SinkSizes, Why>
+    ensures { result ≡ buffers_sink_read text.now }
+{
+    let [bytes, pieces] = read_numbers::<2>(text)?;
+    Ok(SinkSizes::Buffers { bytes, pieces })
 }
 
 // The batch that three numbers spell, and nothing after them.

@@ -6,24 +6,31 @@
 //! - `align N` sets the alignment, 64 where no line does.
 //! - `handling resend` and `handling delta` set how the case handles dictionaries that grew, by Resend where no line does.
 //! - `error_on_replacement 1` refuses a dictionary that would be replaced, and `error_on_replacement 0`, the default, does not.
+//! - `form numbers` and `form supplied` set the header form of the case; where no line does, it is supplied if the case has a `meta` line, else numbers.
+//! - `meta HEX` supplies one more header.
+//! - `sink bytes N` has the sink take N bytes more than it holds at first, 67108864 where no line says; `sink buffers N P` has it keep pieces, and take N bytes and P pieces more.
+//! - `held HEX` appends bytes to those that the sink holds at first.
+//! - `out PATH` says where the sink's bytes go when the case ends.
 //! - `show FIRST COLUMNS ROWS` asks to show the rows of a batch: a first node, how many columns, and how many rows they have.
 //! - `id` asks for the next id.
 //! - `collect FIRST COLUMNS ROWS` asks to collect the dictionaries of a batch.
 //! - `memory FIELDS BUFFERS MESSAGES WORK METADATA` says how long the memories are that the calls after it are lent: entries of the first three, and bytes of the others.
 //! - `plan FIRST COLUMNS ROWS` asks to plan the messages of a batch.
+//! - `frame FIRST COLUMNS ROWS` asks to plan a batch and write its frames.
 //!
-//! The three options stand for the whole case, wherever their lines are; of two lines that set the same, the last counts.
+//! The three options, and `form`, `sink` and `out`, stand for the whole case, wherever their lines are; of two lines that set the same, the last counts.
 //!
 //! Blanks stand between words, and `#` starts a comment. Hex is in pairs of digits, and `-` is none.
 #![tactic(auto)]
 
 ghost use Rattle.std.specs.Prelude.{◌≡◌, [], ◌∷◌, ◌++◌, string_bytes};
 ghost use Rattle.std.specs.Option.{option_map};
-ghost use Rattle.orders.specs.Orders.{spelled, fresh, started, cases_in, begun, Makes, Turns, Follows, OrderRead};
+ghost use Rattle.orders.specs.Orders.{spelled, fresh, header_form, started, cases_in, begun, Makes, Turns, Follows, OrderRead};
 ghost use Rattle.orders.specs.Adding.{added, to_last_of};
 
 mod call;
 mod error;
+mod framing;
 mod hex;
 mod item;
 mod number;
@@ -32,6 +39,7 @@ mod text;
 
 pub use call::{Batch, Call, MemorySizes};
 pub use error::{OrderError, Why};
+pub use framing::{FormName, SinkSizes};
 use item::{Item, Part, read_item};
 pub use options::Options;
 use recording::DictionaryHandling;
@@ -40,7 +48,7 @@ use std::fs;
 use std::rt::Files;
 use text::Lines;
 
-/// A recording to open, its node table and its bytes, the options that its lines set, and what they ask for. A case before the first `case` line has no name.
+/// A recording to open, its node table and its bytes, the options and the framing that its lines set, and what they ask for. A case before the first `case` line has no name.
 // The two runs stand apart, since an opening takes them so.
 // No `Debug`: it would print the bytes of a recording.
 #[derive(Drop)]
@@ -49,6 +57,15 @@ pub struct Case {
     pub nodes: Vec<u8>,
     pub bytes: Vec<u8>,
     pub options: Options,
+    /// What the lines say; `header_form` gives the form also where none does.
+    pub form: Option<FormName>,
+    /// The headers that the case supplies, in order.
+    pub headers: Vec<Vec<u8>>,
+    pub sink: SinkSizes,
+    /// What the sink holds at first.
+    pub held: Vec<u8>,
+    /// Where the sink's bytes go when the case ends.
+    pub out: Option<String>,
     pub calls: Vec<Call>,
 }
 
@@ -61,7 +78,23 @@ impl Case {
             nodes: Vec::new(heap),
             bytes: Vec::new(heap),
             options: Options::default(),
+            form: None,
+            headers: Vec::new(heap),
+            sink: SinkSizes::default(),
+            held: Vec::new(heap),
+            out: None,
             calls: Vec::new(heap),
+        }
+    }
+
+    /// The header form of the case: the one that a line says, or else supplied where the case supplies a header.
+    pub fn header_form(&self) -> FormName
+        ensures { result ≡ header_form (spelled self.now) }
+    {
+        match self.form {
+            Some(form) => form,
+            None if self.headers.is_empty() => FormName::Numbers,
+            None => FormName::Supplied,
         }
     }
 
@@ -71,9 +104,14 @@ impl Case {
         match more {
             More::Run(Part::Nodes, bytes) => self.nodes.extend_from_slice(bytes)?,
             More::Run(Part::Bytes, bytes) => self.bytes.extend_from_slice(bytes)?,
+            More::Run(Part::Held, bytes) => self.held.extend_from_slice(bytes)?,
             More::Align(alignment) => self.options.alignment = alignment,
             More::Handling(handling) => self.options.dictionary_handling = handling,
             More::ErrorOnReplacement(refuse) => self.options.error_on_replacement = refuse,
+            More::Form(form) => self.form = Some(form),
+            More::Header(header) => self.headers.push(header)?,
+            More::Sink(sizes) => self.sink = sizes,
+            More::Out(path) => self.out = Some(path),
             More::Call(call) => self.calls.push(call)?,
         }
         Ok(())
@@ -81,12 +119,16 @@ impl Case {
 }
 
 // What more a line says of a case.
-#[derive(Clone, Copy)]
+#[derive(Drop)]
 enum More<'a> {
     Run(Part, &'a [u8]),
     Align(u64),
     Handling(DictionaryHandling),
     ErrorOnReplacement(bool),
+    Form(FormName),
+    Header(Vec<u8>),
+    Sink(SinkSizes),
+    Out(String),
     Call(Call),
 }
 
@@ -122,6 +164,10 @@ fn follow(rt: &(impl Files + AllocGlobal), line: &[u8], cases: &mut Vec<Case>) -
         Item::Align(alignment) => add_to_last(cases, More::Align(alignment)),
         Item::Handling(handling) => add_to_last(cases, More::Handling(handling)),
         Item::ErrorOnReplacement(refuse) => add_to_last(cases, More::ErrorOnReplacement(refuse)),
+        Item::Form(form) => add_to_last(cases, More::Form(form)),
+        Item::Meta(header) => add_to_last(cases, More::Header(header)),
+        Item::Sink(sizes) => add_to_last(cases, More::Sink(sizes)),
+        Item::Out(path) => add_to_last(cases, More::Out(path)),
         Item::Call(call) => add_to_last(cases, More::Call(call)),
     }
 }

@@ -3,5 +3,6 @@ pub mod Shown
 pub mod Collected
 pub mod Lending
 pub mod Planned
+pub mod Framed
 pub mod Bodies
 pub mod Telling

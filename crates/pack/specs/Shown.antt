@@ -2,6 +2,7 @@
 use Rattle.std.specs.Prelude.{ℕ, List, ◌++◌, codes, decimal, Some, None, Option}
 use Rattle.std.specs.Fmt.{signed_decimal}
 use Rattle.std.specs.List.{flat_map}
+use Rattle.columns.specs.declared.message.Message.{Message}
 use Rattle.columns.specs.declared.message.MessageKind.{MessageKind}
 use Rattle.columns.specs.declared.message.MessageKind.TheVariants.{Batch, Dictionary, Delta}
 use Rattle.columns.specs.declared.record.BufferEntry.{BufferEntry}
@@ -49,9 +50,21 @@ buffer_shown b = codes " (" ++ (signed_decimal b.offset ++ (codes "," ++ (signed
 abbrev pub buffers_shown : List BufferEntry → List ℕ
 buffers_shown es = flat_map (λ e. buffer_shown e.buffer) es
 
+-- what comes before the records
+abbrev pub head_shown : ℕ → Message → List ℕ
+head_shown i m =
+    codes "message " ++ (decimal i ++ (codes " kind " ++ (kind_name m.kind
+    ++ (codes " id " ++ (decimal m.id ++ (codes " rows " ++ (decimal m.rows
+    ++ (codes " body " ++ decimal m.lengths.1))))))))
+
 abbrev pub message_shown : MessageLine → List ℕ
 message_shown l =
-    codes "message " ++ (decimal l.index ++ (codes " kind " ++ (kind_name l.message.kind
-    ++ (codes " id " ++ (decimal l.message.id ++ (codes " rows " ++ (decimal l.message.rows
-    ++ (codes " body " ++ (decimal l.message.lengths.1
-    ++ (codes " fields" ++ (fields_shown l.fields.0.now ++ (codes " buffers" ++ buffers_shown l.buffers.0.now))))))))))))
+    head_shown l.index l.message
+    ++ (codes " fields" ++ (fields_shown l.fields.0.now ++ (codes " buffers" ++ buffers_shown l.buffers.0.now)))
+
+-- of a message whose frame is written, with the lengths of its header and of its body
+abbrev pub framed_shown : MessageLine → List ℕ
+framed_shown l =
+    head_shown l.index l.message
+    ++ (codes " lengths " ++ (decimal l.message.lengths.0 ++ (codes " " ++ (decimal l.message.lengths.1
+    ++ (codes " fields" ++ (fields_shown l.fields.0.now ++ (codes " buffers" ++ buffers_shown l.buffers.0.now)))))))

@@ -3,11 +3,14 @@ ghost use Rattle.std.specs.Prelude.{◌≡◌, MatchResult};
 ghost use Rattle.recording.specs.View.{bytes_in};
 ghost use Rattle.pack.specs.Collected.{IsCollected, IsRefused};
 
+use crate::frame::show_frame;
 use crate::memory::MOST;
 use crate::plan::show_plan;
+use crate::sink::CaseSink;
 use crate::update::line_of;
 use crate::value::RowText;
 use dictionaries::{DictionaryTracker, MetDictionaries, MetDictionary};
+use frames::HeaderForm;
 use layout::{Fault, Node};
 use orders::{Batch, Call};
 use recording::{Columns, IpcWriteOptions, Recording};
@@ -23,13 +26,16 @@ pub(crate) struct Opened<'a> {
 }
 
 /// Makes the calls of a case in their order, and prints what each answers.
-pub(crate) fn show_calls(
+pub(crate) fn show_calls<F: HeaderForm, S: CaseSink>(
     rt: &(impl Print + AllocGlobal),
     opened: &Opened,
     calls: &[Call],
+    form: &F,
+    sink: &mut S,
 ) -> io::Result<()> {
     let mut tracker = DictionaryTracker::new();
     let mut sizes = MOST;
+    let mut ordinal = 0;
     for call in calls {
         match *call {
             Call::Show(batch) => show_columns(rt, &opened.recording, batch)?,
@@ -37,6 +43,16 @@ pub(crate) fn show_calls(
             Call::Collect(batch) => show_updates(rt, opened, batch, &mut tracker)?,
             Call::Lend(lent) => sizes = lent,
             Call::Plan(batch) => show_plan(rt, opened, batch, &sizes, &mut tracker)?,
+            Call::Frame(batch) => show_frame(
+                rt,
+                opened,
+                batch,
+                &sizes,
+                &mut tracker,
+                form,
+                &mut ordinal,
+                sink,
+            )?,
         }
     }
     Ok(())

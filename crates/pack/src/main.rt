@@ -4,35 +4,26 @@
 
 mod body;
 mod calls;
+mod failure;
+mod frame;
+mod framing;
 mod memory;
 mod message;
 mod plan;
 mod sample;
 mod show;
+mod sink;
 mod told;
 mod update;
 mod value;
 
-use orders::{Case, OrderError, read_order};
+use failure::Failure;
+use orders::{Case, read_order};
 use sample::SAMPLE;
 use show::show_case;
 use std::process::ExitCode;
 use std::rt::{Env, Files};
-use std::{env, fs, io};
-use thiserror::Error;
-
-/// Why the program gives no answer, or not the whole of it.
-#[derive(Debug, Drop, Error)]
-enum Failure {
-    #[error("usage: pack [ORDER]")]
-    Usage,
-    #[error("order: {0}")]
-    Unread(io::Error),
-    #[error("order {0}")]
-    Order(OrderError),
-    #[error("output: {0}")]
-    Output(io::Error),
-}
+use std::{env, fs};
 
 fn main(rt: HostRuntime) -> ExitCode {
     match run(&rt) {
@@ -48,7 +39,7 @@ fn main(rt: HostRuntime) -> ExitCode {
 // The whole order is read before its first case is opened, so that a bad order prints no answer.
 fn run(rt: &(impl Env + Files + AllocGlobal + Print)) -> Result<(), Failure> {
     for case in ordered(rt)?.iter() {
-        show_case(rt, case).map_err(Failure::Output)?;
+        show_case(rt, case)?;
     }
     Ok(())
 }

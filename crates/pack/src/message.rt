@@ -1,6 +1,6 @@
 //! What is printed of a message that is planned.
 ghost use Rattle.std.specs.Prelude.{◌≡◌, Some};
-ghost use Rattle.pack.specs.Shown.{kind_name, message_shown, fields_shown, buffers_shown};
+ghost use Rattle.pack.specs.Shown.{kind_name, head_shown, message_shown, framed_shown, fields_shown, buffers_shown};
 
 use columns::{BufferEntry, BufferRecord, FieldRecord, Message, MessageKind};
 use std::fmt;
@@ -19,17 +19,64 @@ impl fmt::Display for MessageLine<'_> {
     ghost output = { λ line. Some (message_shown line) };
 
     fn fmt<W: fmt::Write>(&self, f: &mut fmt::Formatter<W>) -> fmt::Result {
+        let head = MessageHead::of(self);
+        let fields = self.fields;
+        let buffers = self.buffers;
+        write!(f, "{head} fields{fields} buffers{buffers}")
+    }
+}
+
+/// The line of a message whose frame is written, with how long its header and its body are.
+#[derive(Clone, Copy)]
+pub(crate) struct FramedLine<'a>(pub MessageLine<'a>);
+
+// By hand: what it prints is in its contract.
+impl fmt::Display for FramedLine<'_> {
+    ghost output = { λ line. Some (framed_shown line.0) };
+
+    fn fmt<W: fmt::Write>(&self, f: &mut fmt::Formatter<W>) -> fmt::Result {
+        let head = MessageHead::of(&self.0);
+        let (header, body) = self.0.message.lengths;
+        let fields = self.0.fields;
+        let buffers = self.0.buffers;
+        write!(
+            f,
+            "{head} lengths {header} {body} fields{fields} buffers{buffers}"
+        )
+    }
+}
+
+// What a message's line says before its records.
+#[derive(Clone, Copy)]
+struct MessageHead {
+    index: usize,
+    message: Message,
+}
+
+impl MessageHead {
+    fn of(line: &MessageLine) -> MessageHead
+        ensures index { result.index ≡ line.now.index }
+        ensures message { result.message ≡ line.now.message }
+    {
+        MessageHead {
+            index: line.index,
+            message: line.message,
+        }
+    }
+}
+
+impl fmt::Display for MessageHead {
+    ghost output = { λ head. Some (head_shown head.index head.message) };
+
+    fn fmt<W: fmt::Write>(&self, f: &mut fmt::Formatter<W>) -> fmt::Result {
         let index = self.index;
         let Message { id, rows, .. } = self.message;
         let kind = name_of(self.message.kind);
         let (_, body) = self.message.lengths;
-        let fields = self.fields;
-        let buffers = self.buffers;
         write!(
             f,
             "message {index} kind {kind} id {id} rows {rows} body {body}"
-        )?;
-        write!(f, " fields{fields} buffers{buffers}")
+        )
     }
 }
 

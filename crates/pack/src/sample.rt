@@ -2,7 +2,8 @@
 
 /// A struct of lists, byte strings and a dictionary, with nulls; columns of other kinds; a dictionary that a valid row
 /// reaches past; dictionaries that are collected, with each update and a refused one; batches that are planned, with each kind
-/// of message, and in memories that are too short; and an alignment that is none.
+/// of message, and in memories that are too short; batches that are framed, with the numbers of each message and with headers
+/// that are supplied, into a sink until it is full; and an alignment that is none.
 pub const SAMPLE: &str = "\
 # node: kind mark size rows from bitmap slots data extent span
 # A bitmap is given as its place plus 1, and 0 is none.
@@ -108,6 +109,40 @@ plan 0 1 2                                 # work memory is
 memory 2 5 2 12 65536
 plan 0 1 2                                 # nothing was kept
 plan 2 1 2                                 # one value more
+
+case frames
+align 8
+handling delta
+sink buffers 504 23                        # room for the frames of two batches, and no more
+held 2a                                    # what the sink holds at first
+node 8 1 1 2 0 0 0  0 0 2  # a dictionary: a, b
+node 3 2 0 2 0 0 2 18 2 1
+node 8 1 1 2 0 0 0  0 0 2  # a, b, c
+node 3 2 0 3 0 0 2 18 3 1
+bytes 00 01                                # place  0: the keys
+bytes 00000000 01000000 02000000 03000000  # place  2: where the values begin and end
+bytes 616263                               # place 18: the values
+frame 0 1 2                                # there is no id yet
+id
+frame 0 1 2                                # the dictionary's values, and the batch
+frame 2 1 2                                # one value more
+frame 2 1 2                                # the sink is full
+
+case headers
+align 8
+node 8 1 1 2 0 0 0  0 0 2  # a dictionary: a, b
+node 3 2 0 2 0 0 2 14 2 1
+bytes 00 01                                # place  0: the keys
+bytes 00000000 01000000 02000000           # place  2: where the values begin and end
+bytes 6162                                 # place 14: the values
+meta 6f6e65                                # a header for each message: one, two, three
+meta 74776f
+meta 7468726565
+meta -                                     # and none for the fourth
+id
+frame 0 1 2                                # two messages
+frame 0 1 2                                # the values were sent, and so it is one
+frame 0 1 2                                # there is no header
 
 case alignment
 align 24

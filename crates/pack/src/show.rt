@@ -12,10 +12,13 @@ ghost use Rattle.recording.specs.Trees.{places_left};
 ghost use Rattle.pack.specs.Levels.{IsDeep};
 ghost use Rattle.pack.specs.Shown.{node_shown};
 
-use crate::calls::{Opened, show_calls, show_fault_of};
+use crate::calls::{Opened, show_fault_of};
+use crate::failure::Failure;
+use crate::framing::show_framing;
 use layout::{Fault, Kind, Node};
 use orders::{Case, Options};
 use recording::{IpcWriteOptions, NodeRef, Recording, Trees};
+use std::rt::Files;
 use std::{fmt, io};
 
 /// What is printed of a node.
@@ -52,11 +55,14 @@ impl fmt::Display for NodeLine {
 }
 
 /// Opens a case, and prints its nodes and what its calls answer, or the rule that it breaks.
-pub(crate) fn show_case(rt: &(impl Print + AllocGlobal), case: &Case) -> io::Result<()> {
+pub(crate) fn show_case(
+    rt: &(impl Files + Print + AllocGlobal),
+    case: &Case,
+) -> Result<(), Failure> {
     show_name(rt, case)?;
     match write_options(&case.options) {
         Ok(options) => show_opening(rt, case, options),
-        Err(fault) => show_fault_of(rt, "options", fault),
+        Err(fault) => Ok(show_fault_of(rt, "options", fault)?),
     }
 }
 
@@ -79,10 +85,10 @@ fn write_options(options: &Options) -> Result<IpcWriteOptions, Fault>
 
 // Prints the nodes of a case's recording, and then what its calls answer.
 fn show_opening(
-    rt: &(impl Print + AllocGlobal),
+    rt: &(impl Files + Print + AllocGlobal),
     case: &Case,
     options: IpcWriteOptions,
-) -> io::Result<()> {
+) -> Result<(), Failure> {
     match Recording::try_new(&case.nodes, &case.bytes) {
         Ok(recording) => {
             show_recording(rt, &recording)?;
@@ -91,9 +97,9 @@ fn show_opening(
                 bytes: &case.bytes,
                 options,
             };
-            show_calls(rt, &opened, &case.calls)
+            show_framing(rt, &opened, case)
         }
-        Err(fault) => show_fault_of(rt, "open", fault),
+        Err(fault) => Ok(show_fault_of(rt, "open", fault)?),
     }
 }
 

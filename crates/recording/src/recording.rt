@@ -79,6 +79,13 @@ impl<'a> Recording<'a> {
         self.bytes.len()
     }
 
+    /// The bytes that it has.
+    pub fn bytes(&self) -> &'a [u8]
+        ensures { result.now ≡ bytes_in self.now }
+    {
+        self.bytes
+    }
+
     /// Node i, which the recording has; `get` tests that.
     // Two, since this one cannot fail, and a caller that has a proof shall not handle `None`.
     pub fn at(&self, i: usize) -> NodeRef<'a>

@@ -1,6 +1,7 @@
-//! What `bench/` calls from C to time an opening, a count of bits, a comparison of dictionaries and a plan beside plain C.
+//! What `bench/` calls from C to time an opening, a count of bits, a comparison of dictionaries, a plan and a frame beside plain C.
 #![tactic(auto)]
 
+mod frame;
 mod plan;
 
 ghost use Rattle.std.specs.Prelude.{◌≡◌, Ok, Err, MatchResult};

@@ -12,7 +12,7 @@ use recording::{Columns, IpcWriteOptions, Recording};
 
 const ALIGNMENT: usize = 64;
 
-const NO_BUFFER: BufferEntry = BufferEntry {
+pub(crate) const NO_BUFFER: BufferEntry = BufferEntry {
     buffer: BufferRecord {
         offset: 0,
         length: 0,
@@ -21,7 +21,7 @@ const NO_BUFFER: BufferEntry = BufferEntry {
 };
 
 /// Plans a batch of one column, at a node, and copies its body to the start of `out`; answers how long that is, or 0 where the
-/// column or a memory is refused or `out` is too short. `bytes` are those of the recording, which lends them to no one.
+/// column or a memory is refused or `out` is too short. `bytes` are those of the recording.
 // No enum crosses to C, so what is planned stays here.
 #[unsafe(no_mangle)]
 pub extern "C" fn timing_plan(

@@ -7,7 +7,7 @@ use Rattle.columns.specs.declared.message.Message.{Message}
 use Rattle.columns.specs.declared.message.MessageKind.TheVariants.{Batch}
 use Rattle.columns.specs.Telling.{told, told_all, bytes_named}
 use Rattle.pack.specs.declared.told.ToldMessage.{ToldMessage}
-use Rattle.pack.specs.Telling.{told_by}
+use Rattle.pack.specs.Telling.{printed, printed_by}
 use Rattle.pack.proofs.Telling.{tells_next, tells_all}
 use Rattle.pack.proofs.told.tell_messages.Goals as goal
 
@@ -34,8 +34,8 @@ loop-index-preserved c =
     let own_fields : own.fields.now ≡ take m.fields fs = search rules in
     let own_buffers : own.buffers.now ≡ take m.buffers es = search rules in
     let own_body : c.in_ok-body.body.items ≡ body al (map (bytes_named bs work) own.buffers.now) = search rules in
-    let as_told : told_by t ≡ told al bs work fs es m = rw (own_body, own_fields, own_buffers) refl in
-    let whole = told_all al bs work c.args.memory.now.fields.now c.args.memory.now.buffers.now ms in
+    let as_told : printed_by t ≡ printed al (told bs work fs es m) = rw (own_body, own_fields, own_buffers) refl in
+    let whole = map (printed al) (told_all bs work c.args.memory.now.fields.now c.args.memory.now.buffers.now ms) in
     tells_next al bs work whole ms i fs _ es _ c.loop-index.told.items _ blank t (search rules) c.loop-index.invariant as_told refl (search rules) (search rules) (search rules)
 
 pub returns : goal.returns
@@ -47,10 +47,10 @@ returns c =
     let on = c.loop-index.invariant in
     let short : c.min.result ≡ min c.args.count (length all) = search rules in
     let ms : take c.min.result all ≡ take c.args.count all = ap (λ n. take n all) short ∙ take_min c.args.count all in
-    let whole = told_all al bs memory.work.now memory.fields.now memory.buffers.now (take c.min.result all) in
+    let whole = map (printed al) (told_all bs memory.work.now memory.fields.now memory.buffers.now (take c.min.result all)) in
     let same : bytes_in c.args.opened.now.recording ≡ bs = c.args.opened.now.same in
     let done = tells_all al bs memory.work.now whole (take c.min.result all) c.loop-index.index c.loop-index.records.fields.now c.loop-index.records.buffers.now c.loop-index.told.items c.loop-index-test.false on in
     record {
-      told = done ∙ ap (told_all al bs memory.work.now memory.fields.now memory.buffers.now) ms ∙ ap (λ xs. told_all al xs memory.work.now memory.fields.now memory.buffers.now (take c.args.count all)) (sym same);
+      told = done ∙ ap (λ xs. map (printed al) (told_all bs memory.work.now memory.fields.now memory.buffers.now xs)) ms ∙ ap (λ xs. map (printed al) (told_all xs memory.work.now memory.fields.now memory.buffers.now (take c.args.count all))) (sym same);
       numbered = on.numbered;
     }

@@ -14,6 +14,9 @@ returns-in-nodesfile c = read_as c.args.word.now (codes "nodesfile") (omega arit
 pub returns-in-bytesfile : goal.returns-in-bytesfile
 returns-in-bytesfile c = read_as c.args.word.now (codes "bytesfile") (omega arith) (search rules)
 
+pub returns-in-align : goal.returns-in-align
+returns-in-align c = read_as c.args.word.now (codes "align") (omega arith) (search rules)
+
 pub returns-in-show : goal.returns-in-show
 returns-in-show c = read_as c.args.word.now (codes "show") (omega arith) (search rules)
 
@@ -32,3 +35,6 @@ returns-in-memory c = read_as c.args.word.now (codes "memory") (omega arith) (se
 
 pub returns-in-plan : goal.returns-in-plan
 returns-in-plan c = read_as c.args.word.now (codes "plan") (omega arith) (search rules)
+
+pub returns-in-frame : goal.returns-in-frame
+returns-in-frame c = read_as c.args.word.now (codes "frame") (omega arith) (search rules)

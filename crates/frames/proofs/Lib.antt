@@ -1,0 +1,9 @@
+pub mod Sinks
+pub mod Framing
+pub mod Rooms
+pub mod Sizing
+pub mod Writing
+pub mod NumberBytes
+pub mod NumbersApart
+pub mod NumbersFit
+pub mod WholeBatch
