@@ -1,0 +1,14 @@
+pub mod Went
+pub mod Held
+pub mod Stays
+pub mod Alike
+pub mod Hears
+pub mod Updates
+pub mod Values
+pub mod Columns
+pub mod Rebuilt
+pub mod Promise
+pub mod Amounts
+pub mod Found
+pub mod Sent
+pub mod Layers

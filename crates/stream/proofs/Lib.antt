@@ -1,0 +1,4 @@
+pub mod Updates
+pub mod Ways
+pub mod Ending
+pub mod Running
