@@ -1,9 +1,18 @@
 -- What a batch answers, and what it leaves in the lent memories.
-use Rattle.std.specs.Prelude.{◌≡◌, ℕ, List, [], ◌∷◌, map, length, Ok, Err, Result, Some}
+use Rattle.std.specs.Prelude.{◌≡◌, ℕ, List, [], ◌∷◌, map, length, Ok, Err, Result, Some, Option}
 use Rattle.layout.specs.declared.fault.Fault.{Fault}
 use Rattle.layout.specs.Messages as sent
 use Rattle.dictionaries.specs.declared.update.DictionaryUpdate.{DictionaryUpdate}
+use Rattle.recording.specs.declared.columns.Columns.{Columns}
+use Rattle.recording.specs.declared.options.IpcWriteOptions.{IpcWriteOptions}
+use Rattle.recording.specs.declared.recording.Recording.{Recording}
+use Rattle.recording.specs.Alignments.{alignment_number}
+use Rattle.recording.specs.ColumnPlaces.{ColumnsFound}
+use Rattle.dictionaries.specs.Batches.{AreMet}
+use Rattle.dictionaries.specs.declared.update.DictionaryValues.{DictionaryValues}
+use Rattle.dictionaries.specs.declared.update.MetDictionary.{MetDictionary}
 use Rattle.columns.specs.declared.memory.Memory.{Memory}
+use Rattle.columns.specs.Plans.{messages_of, all_entries}
 use Rattle.columns.specs.Lists.{over}
 use Rattle.columns.specs.Telling.{field_read, buffer_read}
 use Rattle.frames.specs.Headers.{over_front}
@@ -54,3 +63,12 @@ pub record BatchTook (t : Turn) (r : Result Accepted Fault) (next : State) (befo
   pub answer : Answers t.answer r
   pub state : next ≡ t.next
   pub leaves : Leaves t.written before after updates_before updates_after
+
+-- ---- where the bytes of its buffers lie
+
+-- an accepted batch leaves the entries of its messages: each says where in the recording, or where in work memory, its bytes are
+abbrev pub Placed : Recording → IpcWriteOptions → List (Option DictionaryValues) → ℕ → ℕ → ℕ → Memory → Memory → Result Accepted Fault → Type 0
+Placed rec o ks first columns rows before after (Ok a) =
+    (c : Columns) × (met : List MetDictionary) × ColumnsFound rec first columns rows (Ok c) × AreMet o ks c met
+    × (after.buffers.now ≡ over before.buffers.now 0 (all_entries (alignment_number o.alignment) 0 (messages_of c met)))
+Placed rec o ks first columns rows before after (Err f) = Unit {0}

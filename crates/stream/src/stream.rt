@@ -6,7 +6,8 @@ ghost use Rattle.frames.specs.Sinks.{SinkMeaning};
 ghost use Rattle.runs.specs.Calls.{Call};
 ghost use Rattle.runs.specs.Layers.{recorded, lent_by};
 ghost use Rattle.runs.specs.Turns.{turn, new_stream};
-ghost use Rattle.stream.specs.Batches.{BatchTook};
+ghost use Rattle.dictionaries.specs.Tracking.{kept_windows};
+ghost use Rattle.stream.specs.Batches.{BatchTook, Placed};
 ghost use Rattle.stream.specs.Streams.{setting_of, recorded_in, state_of, Same, Took, id_answer, clear_answer, finish_answer};
 
 use columns::Memory;
@@ -105,6 +106,7 @@ impl<'a, F: HeaderForm + Drop, S: IpcMessageSink + Drop> Stream<'a, F, S> {
     ) -> Result<Accepted, Fault>
         ensures took { BatchTook (turn (setting_of F.header S.cost self.old) (recorded_in self.old) (Call.batch batch.first batch.columns batch.rows (lent_by memory.old)) (state_of S.meaning self.old))
             result (state_of S.meaning self.new) memory.old memory.new updates.old updates.new }
+        ensures placed { Placed self.old.recording self.old.options (kept_windows self.old.tracker) batch.first batch.columns batch.rows memory.old memory.new result }
         ensures same { Same self.old self.new }
         ensures memories { S.memories self.new.sink ≡ S.memories self.old.sink }
     {

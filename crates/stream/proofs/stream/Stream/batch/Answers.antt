@@ -5,8 +5,9 @@ use Rattle.dictionaries.specs.Tracking.{kept_shown, kept_windows}
 use Rattle.dictionaries.specs.declared.update.MetDictionary.{MetDictionary}
 use Rattle.dictionaries.specs.Batches.{kept_after}
 use Rattle.dictionaries.specs.Walking.{updates_in}
+use Rattle.recording.specs.Alignments.{alignment_number}
 use Rattle.columns.specs.Lists.{over}
-use Rattle.columns.specs.Plans.{messages_of}
+use Rattle.columns.specs.Plans.{messages_of, all_entries}
 use Rattle.frames.specs.Batches.{Unwritten, Written}
 use Rattle.frames.specs.Sinks.{SinkMeaning}
 use Rattle.runs.specs.Calls.{alignment}
@@ -76,3 +77,10 @@ returns-clause-took g c =
     items c.in_ok-met.ensures.met c.write_to_sink.new.memory c.in_ok-messages.messages _ _ c.args.updates.now c.write_updates.new.updates c.len.ensures.value refl
     (ap (map (kept_shown (nodes_in s.recording) (bytes_in s.recording))) (c.keep.ensures ∙ kept_then) ∙ kept_there s.recording columns (kept_after (kept_windows s.tracker) items) found.1)
     refl refl over_so (subst went c.as_slice.ensures.value c.in_ok-messages.ensures.answer)
+
+pub returns-clause-placed : goal.returns-clause-placed
+returns-clause-placed g c =
+    let al = alignment_number c.args.self.now.options.alignment in
+    let columns = c.in_ok-columns.columns in
+    let entries = λ (ms : List MetDictionary). over c.args.memory.now.buffers.now 0 (all_entries al 0 (messages_of columns ms)) in
+    (columns, c.in_ok-met.met.items, c.in_ok-columns.ensures, c.in_ok-met.ensures.met, c.in_ok-messages.ensures.answer.buffers ∙ ap entries c.as_slice.ensures.value)
