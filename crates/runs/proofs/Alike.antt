@@ -18,8 +18,9 @@ use Rattle.frames.specs.Sinks.{SinkMeaning}
 use Rattle.runs.specs.Calls.{Call, Lent, numbers, Entry, Setting, nothing, alignment}
 use Rattle.runs.specs.Looks.{Look, lacks, shows, Recorded, look}
 use Rattle.runs.specs.Turns.{State, Turn, new_stream, sends_by, sends, all_sends, short, refuse, headers, entry, entries, accept, on_frames, on_plan, on_updates, on_look, early, on_batch, on_open, turn}
-use Rattle.runs.specs.Runs.{deltas, deltas_of, seen_in, seen_unless, seen_by, Seen, seen, Run, turns_from, seen_from, last, turns}
-use Rattle.runs.specs.Laws.{Alike, Agree}
+use Rattle.runs.specs.Runs.{deltas, deltas_of, seen_in, seen_unless, seen_by, Seen, seen, Run, turns_from, seen_from, last, turns, state_after, answers, all_written}
+use Rattle.runs.specs.Laws.{all_pieces, Alike, Agree}
+use Rattle.runs.proofs.Unmeasured.{unmeasured, plain, plainly, turns_plain, shown_plain, answers_plain, written_plain, pieces_plain, last_plain, unmeasured_same, same_unmeasured}
 use Rattle.runs.proofs.Went.{told_of}
 
 -- ---- what a recording is to a batch: what it shows
@@ -225,11 +226,27 @@ module _ (r q : Recorded) (cs ds : List Call) (n : map numbers cs ≡ map number
       ∙ ap (λ (y : Setting). turns_from y q ds (new_stream m)) same
       ∙ ap (λ (y : SinkMeaning). turns_from d q ds (new_stream y)) p
 
+-- what both come to without the lengths that their sinks keep
+plain_turns : (i j : Run) → Alike i j → map plainly (turns i) ≡ map plainly (turns j)
+plain_turns i j a =
+    let m = unmeasured i.sink in
+    let n = unmeasured j.sink in
+    let shown = shown_plain i.setting i.recorded i.calls (new_stream i.sink) ∙ a.shown ∙ sym (shown_plain j.setting j.recorded j.calls (new_stream j.sink)) in
+    turns_plain i.setting i.recorded i.calls (new_stream i.sink)
+    ∙ from_same i.recorded j.recorded i.calls j.calls a.calls i.setting j.setting m n a.options a.cost a.form (unmeasured_same i.sink j.sink a.sink) shown
+    ∙ sym (turns_plain j.setting j.recorded j.calls (new_stream j.sink))
+
 pub alike : (i j : Run) → Alike i j → Agree i j
 alike i j a =
-    let t : turns i ≡ turns j = from_same i.recorded j.recorded i.calls j.calls a.calls i.setting j.setting i.sink j.sink a.options a.cost a.form a.sink a.shown in
+    let t = plain_turns i j a in
+    let after : plain (state_after i) ≡ plain (state_after j) =
+    sym (last_plain (new_stream i.sink) (turns i))
+    ∙ ap (λ (m : SinkMeaning). last (new_stream m) (map plainly (turns i))) (unmeasured_same i.sink j.sink a.sink)
+    ∙ ap (λ (ts : List Turn). last (plain (new_stream j.sink)) ts) t
+    ∙ last_plain (new_stream j.sink) (turns j) in
     record {
-      answers = ap (λ (ts : List Turn). map (λ (u : Turn). u.answer) ts) t;
-      written = ap (λ (ts : List Turn). map (λ (u : Turn). u.written) ts) t;
-      sink = ap (λ (m : SinkMeaning). (last (new_stream m) (turns i)).sink) a.sink ∙ ap (λ (ts : List Turn). (last (new_stream j.sink) ts).sink) t;
+      answers = sym (answers_plain (turns i)) ∙ ap answers t ∙ answers_plain (turns j);
+      written = sym (written_plain (turns i)) ∙ ap all_written t ∙ written_plain (turns j);
+      sink = same_unmeasured (state_after i).sink (state_after j).sink (ap (λ (s : State). s.sink) after);
+      pieces = sym (pieces_plain (turns i)) ∙ ap all_pieces t ∙ pieces_plain (turns j);
     }

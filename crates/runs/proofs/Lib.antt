@@ -3,6 +3,7 @@ pub mod Held
 pub mod Stays
 pub mod Alike
 pub mod Hears
+pub mod Unmeasured
 pub mod Updates
 pub mod Values
 pub mod Columns

@@ -5,7 +5,7 @@ use Rattle.layout.specs.declared.fault.Refusal.TheVariants as fault
 use Rattle.layout.specs.Messages as sent
 use Rattle.layout.specs.Opening.{Kept}
 use Rattle.frames.specs.Headers.{header_of}
-use Rattle.frames.specs.Sinks.{lengths_with}
+use Rattle.frames.specs.Sinks.{SinkMeaning, lengths_with}
 use Rattle.runs.specs.Calls.{Call, Entry, Setting, numbers, nothing}
 use Rattle.runs.specs.Calls.Answer.{refused}
 use Rattle.runs.specs.Looks.{Recorded}
@@ -44,6 +44,12 @@ pub record Stays (f : Fault) (s : State) (t : Turn) : Type 0 where
   pub updates : t.written.updates ≡ []
   pub lengths : NoLengths t.written.messages
 
+-- sinks that hold the same and take as much more; the lengths of earlier pieces, where a sink keeps them, do not count
+pub record SameSink (m n : SinkMeaning) : Type 0 where
+  pub held : m.held ≡ n.held
+  pub bytes : m.bytes ≡ n.bytes
+  pub pieces : m.pieces ≡ n.pieces
+
 -- Runs are alike when these agree: options, calls and their numbers apart from first nodes, lengths of the lent memories, the form's meaning,
 -- the sink's meaning at first and its piece cost, and what each batch shows.
 pub record Alike (i j : Run) : Type 0 where
@@ -51,14 +57,15 @@ pub record Alike (i j : Run) : Type 0 where
   pub calls : map numbers i.calls ≡ map numbers j.calls
   pub form : (o : ℕ) (m : sent.Message) → header_of (i.setting.form o m) ≡ header_of (j.setting.form o m)
   pub cost : i.setting.cost ≡ j.setting.cost
-  pub sink : i.sink ≡ j.sink
+  pub sink : SameSink i.sink j.sink
   pub shown : shown_along i ≡ shown_along j
 
 -- compared are the answers with their updates and descriptions, what each call writes, and the sink
 pub record Agree (i j : Run) : Type 0 where
   pub answers : answers (turns i) ≡ answers (turns j)
   pub written : all_written (turns i) ≡ all_written (turns j)
-  pub sink : (state_after i).sink ≡ (state_after j).sink
+  pub sink : SameSink (state_after i).sink (state_after j).sink
+  pub pieces : all_pieces (turns i) ≡ all_pieces (turns j)
 
 -- Each accepted batch, rebuilt by the Arrow rules from the messages up to its own, has exactly the rows and values that the recording has
 -- there; the bodies are cut from the sink's bytes by the answers' lengths.
