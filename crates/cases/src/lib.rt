@@ -5,6 +5,7 @@ ghost use Rattle.cases.specs.Openings.{Openings};
 ghost use Rattle.cases.specs.WindowCases.{WindowCases};
 ghost use Rattle.cases.specs.DictionaryCases.{DictionaryCases};
 ghost use Rattle.cases.specs.FrameCases.{FrameCases};
+ghost use Rattle.cases.specs.RunCases.{RunCases};
 
 #[cfg(test)]
 mod collecting;
@@ -43,4 +44,9 @@ pub fn dictionary_cases_stand()
 /// The frames of specs/FrameCases.antt are as it says there.
 pub fn frame_cases_stand()
     ensures { FrameCases }
+{}
+
+/// The run of specs/RunCases.antt comes to what it says there.
+pub fn run_cases_stand()
+    ensures { RunCases }
 {}
