@@ -78,12 +78,23 @@ few_messages c ms = omega (arith, length-append (plan.all_sent c.recording 0 ms)
 nothing_over : {X Y : Type 0} (read : X → Y) (xs : List X) → Fronts read [] xs xs
 nothing_over read xs = record { written = []; reads = refl; memory = refl }
 
-stays : (s : State) (f : Fault) (m : Memory) (us : List DictionaryUpdate) → BatchTook (refuse nothing f s) (Err f) s m m us us
-stays s f m us = record {
-  answer = refl;
-  state = refl;
-  leaves = record { fields = nothing_over _ _; buffers = nothing_over _ _; messages = nothing_over _ _; work = refl; metadata = refl; updates = refl; same_fields = refl; same_buffers = refl; same_messages = refl; same_work = refl; same_metadata = refl };
+pub leaves_nothing : (m : Memory) (us : List DictionaryUpdate) → Leaves nothing m m us us
+leaves_nothing m us = record {
+  fields = nothing_over _ _;
+  buffers = nothing_over _ _;
+  messages = nothing_over _ _;
+  work = refl;
+  metadata = refl;
+  updates = refl;
+  same_fields = refl;
+  same_buffers = refl;
+  same_messages = refl;
+  same_work = refl;
+  same_metadata = refl;
 }
+
+stays : (s : State) (f : Fault) (m : Memory) (us : List DictionaryUpdate) → BatchTook (refuse nothing f s) (Err f) s m m us us
+stays s f m us = record { answer = refl; state = refl; leaves = leaves_nothing m us }
 
 -- ---- the frames of messages
 
