@@ -1,7 +1,7 @@
 -- Rows and parts of lists.
 use Rattle.std.proofs.Common.{◌≡◌, ℕ, zero, suc, ◌+◌, ◌-◌, ◌<◌, ◌≤◌, List, ◌∷◌, ◌++◌, length, get_or, take, drop, sym, refl, ap, ◌∙◌, ap₂, le_of_suc-le-suc, not-suc-le-zero, arith, length-append, length-drop, length-take-le, take_all, take-take, drop-drop}
 use lib.Seq.{take-append-le}
-use Rattle.std.proofs.lemmas.List.{drop-take}
+use Rattle.std.proofs.lemmas.List.{drop_at, drop-take, take_at}
 use Rattle.std.proofs.lemmas.Slice.{between_is}
 use Rattle.layout.specs.Lists.{rows, cut}
 
@@ -26,7 +26,12 @@ length_cut k w bs h = length-take-le w (drop k bs) (simp length-drop (omega arit
 abbrev pub put : {X : Type 0} → ℕ → List X → List X → List X
 put p ys xs = take p xs ++ (ys ++ drop (p + length ys) xs)
 
--- what stands before the part that was put is as it was
+-- the part that was put is there
+pub cut-put : {X : Type 0} (p w : ℕ) (ys xs : List X) → length ys ≡ w → p ≤ length xs → cut p w (put p ys xs) ≡ ys
+cut-put p w ys xs e h =
+    rw (drop_at (take p xs) (ys ++ drop (p + length ys) xs) p (length-take-le p xs h), take_at ys (drop (p + length ys) xs) w e)
+
+-- and what stands before it is as it was
 pub cut_before : {X : Type 0} (q w p : ℕ) (ys xs : List X) → q + w ≤ p → p ≤ length xs → cut q w (put p ys xs) ≡ cut q w xs
 cut_before {X} q w p ys xs h l =
     let n : ℕ = q + w in

@@ -1,11 +1,11 @@
 -- Bits that are 0, counted by bytes and by words.
-use Rattle.std.proofs.Common.{◌≡◌, ℕ, zero, suc, ◌+◌, ◌-◌, ◌*◌, ◌/◌, ◌%◌, ◌^◌, ◌<◌, ◌≤◌, min, Bool, true, false, cond, eqb, List, [], ◌∷◌, ◌++◌, length, get_or, take, drop, not, count_by, sum_by, sym, refl, ap, ◌∙◌, ap₂, mul_comm, add_comm, pow-suc, arith, length-drop, length-take-le, get_or-drop, take_all, get_or-take, drop-drop}
+use Rattle.std.proofs.Common.{◌≡◌, ℕ, zero, suc, ◌+◌, ◌-◌, ◌*◌, ◌/◌, ◌%◌, ◌^◌, ◌<◌, ◌≤◌, min, Bool, true, false, cond, eqb, List, [], ◌∷◌, length, get_or, take, drop, not, count_by, sum_by, sym, refl, ap, ◌∙◌, ap₂, mul_comm, add_comm, pow-suc, arith, length-drop, length-take-le, get_or-drop, take_all, get_or-take, drop-drop}
 use native.Mathlib.Nat.{div-div-eq-div-mul}
 use lib.Count.{ones, ones_step, ones_cat}
 use Rattle.std.specs.Simd.{first_chunks}
-use Rattle.std.proofs.lemmas.List.Sums.{sum_by-append, sum_by-cons, sum_by-take-drop}
+use Rattle.std.proofs.lemmas.List.Sums.{sum_by-cons, sum_by_more, sum_by-take-drop}
 use Rattle.layout.specs.Lists.{rows}
-use Rattle.layout.specs.Bits.{bit_of, bit_at, zeros, zeros_in}
+use Rattle.layout.specs.Bits.{bit_of, bit_at, zeros, zeros_of, zeros_in}
 use Rattle.layout.specs.Numbers.{unle}
 use Rattle.layout.proofs.Lists.{rows_same, length-rows}
 use Rattle.layout.proofs.Numbers.{read_8}
@@ -70,10 +70,6 @@ bit_first b bs i h =
     let r : i % 8 ≡ i = omega arith in
     rw (q, r)
 
--- how many bits of a byte are 0
-abbrev zeros_of : ℕ → ℕ
-zeros_of b = zeros (rows 8 (bit_of b))
-
 zeros_cons : (b : ℕ) (bs : List ℕ) → zeros_in (b ∷ bs) ≡ zeros_of b + zeros_in bs
 zeros_cons b bs =
     let m : ℕ = 8 * length bs in
@@ -88,13 +84,19 @@ zeros_in_lem : (bs : List ℕ) → zeros_in bs ≡ sum_by zeros_of bs
 zeros_in_lem [] = refl
 zeros_in_lem (b ∷ bs) = zeros_cons b bs ∙ ap (λ (n : ℕ). zeros_of b + n) (zeros_in_lem bs) ∙ sym (sum_by-cons zeros_of b bs)
 
+-- one byte more
+pub zeros_in_more : (bs : List ℕ) (i : ℕ) → i < length bs → get_or bs i 0 < 256 → zeros_in (take (i + 1) bs) ≡ zeros_in (take i bs) + ones (255 - get_or bs i 0)
+zeros_in_more bs i h l =
+    zeros_in_lem (take (i + 1) bs) ∙ sum_by_more zeros_of bs i 0 h
+    ∙ ap₂ ◌+◌ (sym (zeros_in_lem (take i bs))) (zeros-ones 8 (get_or bs i 0) l)
+
 -- bytes cut in two
 zeros_in_parts : (k : ℕ) (bs : List ℕ) → zeros_in (take k bs) + zeros_in (drop k bs) ≡ zeros_in bs
 zeros_in_parts k bs =
     ap₂ ◌+◌ (zeros_in_lem (take k bs)) (zeros_in_lem (drop k bs)) ∙ sum_by-take-drop zeros_of bs k ∙ sym (zeros_in_lem bs)
 
 -- the words of bytes, and what is left of the bytes
-zeros_in_chunks : (k : ℕ) (bs : List ℕ) → sum_by zeros_in (first_chunks 8 k bs) + zeros_in (drop (k * 8) bs) ≡ zeros_in bs
+pub zeros_in_chunks : (k : ℕ) (bs : List ℕ) → sum_by zeros_in (first_chunks 8 k bs) + zeros_in (drop (k * 8) bs) ≡ zeros_in bs
 zeros_in_chunks zero bs = omega arith
 zeros_in_chunks (suc k) bs =
     let e : 8 + k * 8 ≡ suc k * 8 = omega arith in
@@ -110,22 +112,11 @@ zeros_most [] = omega arith
 zeros_most (true ∷ bs) = omega (arith, zeros_most bs)
 zeros_most (false ∷ bs) = omega (arith, zeros_most bs)
 
--- bytes in which no bit is 0
-abbrev full : List ℕ
-full = 255 ∷ 255 ∷ 255 ∷ 255 ∷ 255 ∷ 255 ∷ 255 ∷ 255 ∷ []
-
-filled : (bs : List ℕ) (n : ℕ) → zeros_in (bs ++ drop n full) ≡ zeros_in bs
-filled bs n =
-    let parts = sum_by-take-drop zeros_of full n in
-    let none : sum_by zeros_of full ≡ 0 = refl in
-    let all = zeros_in_lem (bs ++ drop n full) ∙ sum_by-append zeros_of bs (drop n full) in
-    omega (arith, zeros_in_lem bs)
-
--- words, and a last one that begins with what is left of the bytes
-pub words_and_last : (bs : List ℕ) (words : List (List ℕ)) (rest last : List ℕ) (n : ℕ) → words ≡ first_chunks 8 (length bs / 8) bs → rest ≡ drop (length bs / 8 * 8) bs → last ≡ rest
-    → (sum_by zeros_in words + zeros_in (last ++ drop n full) ≡ zeros_in bs) × (zeros_in bs ≤ 8 * length bs)
-words_and_last bs words rest last n e f g = (
-  ap₂ ◌+◌ (ap (sum_by zeros_in) e) (filled last n ∙ ap zeros_in (g ∙ f)) ∙ zeros_in_chunks (length bs / 8) bs,
+-- words, and what is left of the bytes
+pub words_and_rest : (bs : List ℕ) (words : List (List ℕ)) (rest : List ℕ) → words ≡ first_chunks 8 (length bs / 8) bs → rest ≡ drop (length bs / 8 * 8) bs
+    → (sum_by zeros_in words + sum_by zeros_of rest ≡ zeros_in bs) × (zeros_in bs ≤ 8 * length bs)
+words_and_rest bs words rest e f = (
+  ap₂ ◌+◌ (ap (sum_by zeros_in) e) (ap (sum_by zeros_of) f ∙ sym (zeros_in_lem (drop (length bs / 8 * 8) bs))) ∙ zeros_in_chunks (length bs / 8) bs,
   omega (arith, zeros_most (rows (8 * length bs) (bit_at bs)), length-rows (8 * length bs) (bit_at bs)),
 )
 
@@ -158,34 +149,44 @@ unle_8 bs e = ap unle (sym (take_all 8 bs (omega arith))) ∙ read_8 bs 0 (omega
 
 -- ---- whole bytes between bits
 
--- whole bytes from byte q on are the bits from that byte's first on
-zeros_whole : (bs : List ℕ) (s q k : ℕ) → (0 < k → s ≡ 8 * q) → q + k ≤ length bs → zeros_in (take k (drop q bs)) ≡ zeros (rows (8 * k) (λ i. bit_at bs (s + i)))
-zeros_whole bs s q k edge h =
-    let len : length (take k (drop q bs)) ≡ k = length-take-le k (drop q bs) (simp length-drop (omega arith)) in
+-- whole bytes from byte q on are the bits from a byte's edge on
+zeros_whole : (bs : List ℕ) (p s q k w : ℕ) → q ≡ p + s / 8 → k ≡ w → (0 < w → s % 8 ≡ 0) → q + w ≤ length bs → zeros_in (take k (drop q bs)) ≡ zeros (rows (8 * w) (λ i. bit_at (drop p bs) (s + i)))
+zeros_whole bs p s q k w e f edge h =
+    let len : length (take k (drop q bs)) ≡ w = length-take-le k (drop q bs) (simp length-drop (omega arith)) ∙ f in
     ap (λ (m : ℕ). zeros (rows (8 * m) (bit_at (take k (drop q bs))))) len
-    ∙ ap zeros (rows_same (8 * k) (bit_at (take k (drop q bs))) (λ i. bit_at bs (s + i)) same)
+    ∙ ap zeros (rows_same (8 * w) (bit_at (take k (drop q bs))) (λ i. bit_at (drop p bs) (s + i)) same)
   where
-    same : (i : ℕ) → i < 8 * k → bit_at (take k (drop q bs)) i ≡ bit_at bs (s + i)
+    same : (i : ℕ) → i < 8 * w → bit_at (take k (drop q bs)) i ≡ bit_at (drop p bs) (s + i)
     same i l =
-        let e : s ≡ 8 * q = edge (omega arith) in
-        let at : q + i / 8 ≡ (s + i) / 8 = omega arith in
+        let z : s % 8 ≡ 0 = edge (omega arith) in
+        let at : q + i / 8 ≡ p + (s + i) / 8 = omega arith in
         let bit : i % 8 ≡ (s + i) % 8 = omega arith in
-        ap₂ bit_of (get_or-take k (drop q bs) (i / 8) 0 (omega arith) ∙ get_or-drop q bs (i / 8) 0 ∙ ap (λ (j : ℕ). get_or bs j 0) at) bit
+        ap₂ bit_of
+        (get_or-take k (drop q bs) (i / 8) 0 (omega arith) ∙ get_or-drop q bs (i / 8) 0 ∙ ap (λ (j : ℕ). get_or bs j 0) at ∙ sym (get_or-drop p bs ((s + i) / 8) 0))
+        bit
 
--- bits up to a byte's edge, whole bytes from q up to e, and bits after them
-pub zeros_three : (bs : List ℕ) (s n a w b q e k : ℕ) → a ≡ min n ((8 - s % 8) % 8) → w ≡ (n - a) / 8 → a + 8 * w + b ≡ n → q ≡ (s + a) / 8 → e ≡ q + w → k ≡ e - q → e ≤ length bs
-    → zeros (rows a (λ i. bit_at bs (s + (0 + i)))) + zeros_in (take k (drop q bs)) + zeros (rows b (λ i. bit_at bs (s + (a + 8 * w + i))))
-    ≡ zeros (rows n (λ i. bit_at bs (s + i)))
-zeros_three bs s n a w b q e k front whole all start end count h =
-    let g : ℕ → Bool = λ i. bit_at bs (s + i) in
-    let same : k ≡ w = omega arith in
+-- bits up to a byte's edge, whole bytes, and bits after them
+pub zeros_three : (bs : List ℕ) (p s n a w b q k : ℕ) → n ≡ a + 8 * w + b → q ≡ p + (s + a) / 8 → k ≡ w → (0 < w → (s + a) % 8 ≡ 0) → q + w ≤ length bs
+    → zeros (rows a (λ i. bit_at (drop p bs) (s + i))) + zeros_in (take k (drop q bs)) + zeros (rows b (λ i. bit_at (drop p bs) (s + a + 8 * w + i)))
+    ≡ zeros (rows n (λ i. bit_at (drop p bs) (s + i)))
+zeros_three bs p s n a w b q k e at f edge h =
+    let g : ℕ → Bool = λ i. bit_at (drop p bs) (s + i) in
     let one = zeros_add (a + 8 * w) b g in
     let two = zeros_add a (8 * w) g in
+    let mid = zeros_whole bs p (s + a) q k w at f edge h ∙ ap zeros (rows_same (8 * w) (λ i. bit_at (drop p bs) (s + a + i)) (λ i. g (a + i)) (λ i l. ap (bit_at (drop p bs)) (omega arith))) in
+    let end = ap zeros (rows_same b (λ i. bit_at (drop p bs) (s + a + 8 * w + i)) (λ i. g (a + 8 * w + i)) (λ i l. ap (bit_at (drop p bs)) (omega arith))) in
+    rw e (omega arith)
+
+-- the same of the three parts that a run is cut in, with the bits of each as those of a part
+pub zeros_among : (bs : List ℕ) (s n a w b q e k : ℕ) → a ≡ min n ((8 - s % 8) % 8) → w ≡ (n - a) / 8 → a + 8 * w + b ≡ n → q ≡ (s + a) / 8 → e ≡ q + w → k ≡ e - q → e ≤ length bs
+    → zeros (rows a (λ i. bit_at bs (s + (0 + i)))) + zeros_in (take k (drop q bs)) + zeros (rows b (λ i. bit_at bs (s + (a + 8 * w + i))))
+    ≡ zeros (rows n (λ i. bit_at bs (s + i)))
+zeros_among bs s n a w b q e k front whole all start end count h =
+    let g : ℕ → Bool = λ i. bit_at bs (s + i) in
+    let three = zeros_three bs 0 s n a w b q k (sym all) (omega arith) (omega arith) (λ l. omega arith) (omega arith) in
     let before = ap zeros (rows_same a (λ i. g (0 + i)) g (λ i l. ap g (omega arith))) in
-    let mid = zeros_whole bs (s + a) q k (λ l. omega arith) (omega arith)
-    ∙ ap (λ (k : ℕ). zeros (rows (8 * k) (λ i. bit_at bs (s + a + i)))) same
-    ∙ ap zeros (rows_same (8 * w) (λ i. bit_at bs (s + a + i)) (λ i. g (a + i)) (λ i l. ap (bit_at bs) (omega arith))) in
-    rw (← all) (omega arith)
+    let after = ap zeros (rows_same b (λ i. g (a + 8 * w + i)) (λ i. bit_at bs (s + a + 8 * w + i)) (λ i l. ap (bit_at bs) (omega arith))) in
+    omega arith
 
 -- the bits of a part that are 0, counted one by one
 pub part_zeros : (b p : BitSlice) (k n m : ℕ) → IsPart b k n p → m ≡ count_by (λ i. not (bit_in p i)) (range_with_len 0 p.len) → m ≡ zeros (rows n (λ i. bit_in b (k + i)))

@@ -30,6 +30,10 @@ zeros [] = 0
 zeros (true ∷ bs) = zeros bs
 zeros (false ∷ bs) = suc (zeros bs)
 
+-- how many bits of a byte are 0
+abbrev pub zeros_of : ℕ → ℕ
+zeros_of b = zeros (rows 8 (bit_of b))
+
 -- how many bits of whole bytes are 0
 abbrev pub zeros_in : List ℕ → ℕ
 zeros_in bs = zeros (rows (8 * length bs) (bit_at bs))

@@ -19,7 +19,7 @@ unle-le (suc w) n h =
     let e : 256 ^ suc w ≡ 256 ^ w * 256 = pow-suc 256 w in
     rw (unle-le w (n / 256) (omega arith)) (omega arith)
 
-signed_le : (w : ℕ) (z : ℤ) → SignedFits w z → signed (le w (twos w z)) ≡ z
+pub signed_le : (w : ℕ) (z : ℤ) → SignedFits w z → signed (le w (twos w z)) ≡ z
 signed_le w (pos n) h =
     let l : n < 256 ^ w = omega arith in
     let t : ltb (2 * n) (256 ^ w) ≡ true = lt-ltb _ _ h in

@@ -1,6 +1,6 @@
 ghost use Rattle.std.specs.Prelude.{◌≡◌, ℕ, ◌+◌, ◌-◌, ◌*◌, ◌/◌, ◌%◌, ◌^◌, ◌<◌, ◌≤◌, min, length, not, sum_by, slice_index};
 ghost use Rattle.layout.specs.Lists.{rows};
-ghost use Rattle.layout.specs.Bits.{bit_of, bit_at, bytes_for, zeros, zeros_in};
+ghost use Rattle.layout.specs.Bits.{bit_of, bit_at, bytes_for, zeros, zeros_of, zeros_in};
 
 /// Whether bit i of the bytes is 1.
 pub fn read_bit(bytes: &[u8], i: u64) -> bool
@@ -166,10 +166,25 @@ fn count_zeros_in_bytes(bytes: &[u8]) -> u64
     ensures most { result ≤ 8 * length bytes.now }
 {
     let (words, rest) = bytes.as_chunks::<8>();
-    // What fills the last word has no bit that is 0.
-    let mut last = [0xff; 8];
-    last[..rest.len()].copy_from_slice(rest);
-    count_zeros_in_words(words) + u64::from(count_zeros_in_word(&last))
+    // In a word of its own the rest would be a copy, and a call of `memcpy` for a few bits.
+    count_zeros_in_words(words) + count_zeros_byte_by_byte(rest)
+}
+
+// How many bits of a few bytes are 0.
+fn count_zeros_byte_by_byte(bytes: &[u8]) -> u64
+    requires { sum_by zeros_of bytes.now < 2 ^ 64 }
+    ensures { result ≡ sum_by zeros_of bytes.now }
+{
+    bytes
+        .iter()
+        .map(|byte| u64::from(count_zeros_in_byte(*byte)))
+        .sum()
+}
+
+fn count_zeros_in_byte(byte: u8) -> u32
+    ensures { result ≡ zeros_of byte }
+{
+    byte.count_zeros()
 }
 
 fn count_zeros_in_words(words: &[[u8; 8]]) -> u64

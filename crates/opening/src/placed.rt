@@ -50,10 +50,14 @@ impl<'a> Placed<'a> {
             (reach self.now.subject.kind (table_of self.now.subject) self.now.subject.index) }
     {
         let rows = self.subject.node.rows;
+        // Where there are none, no byte is read.
+        if rows == 0 {
+            return true;
+        }
         let offsets = self.numbers(width, rows + 1);
         let last = offsets.number(rows);
         let most = self.reach();
-        rows == 0 || (last < width.half() && last <= most && offsets.rises())
+        last < width.half() && last <= most && offsets.rises()
     }
 
     // The numbers in so many slots, from that of its first row on.

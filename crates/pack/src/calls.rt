@@ -60,8 +60,9 @@ pub(crate) fn show_calls<F: HeaderForm, S: CaseSink>(
 
 /// Prints what was refused, and why.
 pub(crate) fn show_fault_of(rt: &impl Print, what: &str, fault: Fault) -> io::Result<()> {
-    print!(rt; "{what} ")?;
-    show_fault(rt, fault)
+    // One write, so that nothing comes between its halves.
+    println!(rt; "{what} {fault}")?;
+    println!(rt; "{}", fault.refusal)
 }
 
 /// Prints a fault, and its rule in words.

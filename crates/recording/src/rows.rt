@@ -34,7 +34,7 @@ impl<'a> Iterator for Rows<'a> {
 }
 
 /// The same row of nodes side by side: the parts of a Struct's row, or a row of columns.
-#[derive(Debug, Drop)]
+#[derive(Clone, Copy, Debug)]
 pub struct Parts<'a> {
     pub(crate) nodes: Trees<'a>,
     pub(crate) index: u64,

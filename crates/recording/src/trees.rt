@@ -6,7 +6,7 @@ use crate::recording::Recording;
 
 /// The nodes of trees that stand side by side.
 // A number names each, as in a `NodeRef`. `Children` of `opening` is the same walk where a step may be refused.
-#[derive(Debug, Drop)]
+#[derive(Clone, Copy, Debug)]
 pub struct Trees<'a> {
     pub(crate) recording: Recording<'a>,
     pub(crate) next: usize,

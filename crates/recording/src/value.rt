@@ -5,7 +5,7 @@ use crate::window::Window;
 
 /// What a row has: its value where that is a bit or bytes, else the rows that it is made of.
 // No `Debug`: it would print bytes of a recording.
-#[derive(Drop)]
+#[derive(Clone, Copy)]
 pub enum RowValue<'a> {
     /// No value.
     Null,

@@ -1,5 +1,4 @@
 use Rattle.std.proofs.Common.{◌∙◌, ap, arith, add_assoc}
-use Rattle.std.proofs.lemmas.Bool.{eq-eqb}
 use Rattle.std.proofs.lemmas.Grind.{common_steps}
 use Rattle.layout.specs.Numbers.{wide}
 use Rattle.layout.specs.Tests.{rises_to}
@@ -14,7 +13,7 @@ numbers-offsets-requires c = rw add_assoc at (offsets_within c.args.self.now c.a
 pub returns-then-rows-eq0 : goal.returns-then-rows-eq0
 returns-then-rows-eq0 c =
     let s = c.args.self.now.subject in
-    eq-eqb s.node.rows 0 c.if-rows-eq0.true ∙ no_rows s.bytes.now (wide c.args.width) s.node _ c.if-rows-eq0.true
+    no_rows s.bytes.now (wide c.args.width) s.node _ c.if-rows-eq0.true
 
 pub returns-then-last-most : goal.returns-then-last-most
 returns-then-last-most c =
