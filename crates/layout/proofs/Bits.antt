@@ -1,12 +1,15 @@
 -- Bits of bytes.
-use Rattle.std.proofs.Common.{◌≡◌, ℕ, zero, suc, ◌+◌, ◌*◌, ◌/◌, ◌%◌, ◌^◌, ◌<◌, ◌≤◌, Bool, true, false, cond, not, ◌&&◌, ◌||◌, eqb, List, [], ◌∷◌, count_by, get_or, sym, refl, ap, ◌∙◌, ap₂, mod-eq_of_lt, suc-mul, add_comm, pow-suc, zero-mul, arith}
+use Rattle.std.proofs.Common.{◌≡◌, ℕ, zero, suc, ◌+◌, ◌*◌, ◌/◌, ◌%◌, ◌^◌, ◌<◌, ◌≤◌, Bool, true, false, cond, not, ◌&&◌, ◌||◌, eqb, List, [], ◌∷◌, count_by, sum_by, get_or, sym, refl, ap, ◌∙◌, ap₂, mod-eq_of_lt, suc-mul, add_comm, pow-suc, zero-mul, arith}
 use native.Mathlib.Nat.{pow-succ', div-div-eq-div-mul, zero-div}
 use lib.Bits.{bit_and}
 use mir.Val.{bool_byte}
 use Rattle.std.specs.List.{range_with_len}
 use Rattle.std.proofs.lemmas.Nat.{pow_pos, shr_split, shr_high, mod_low, and_le_l, and_comm, and_mask, and_shr, and_mod, mul-le}
 use Rattle.std.proofs.lemmas.Bool.{and_right, eq-eqb, ne_eqb}
-use Rattle.std.proofs.lemmas.List.Sums.{sum_by-cons}
+use Rattle.std.proofs.lemmas.List.Sums.{sum_by-cons, count_by-le-length}
+use Rattle.std.proofs.lemmas.List.FromFn.{length-range_with_len}
+use Rattle.layout.specs.declared.bit.BitSlice.{BitSlice}
+use Rattle.layout.specs.BitSlices.{bit_in}
 use Rattle.layout.specs.Lists.{rows, every}
 use Rattle.layout.proofs.Every.{turned}
 use Rattle.layout.proofs.Lists.{rows_same}
@@ -31,6 +34,21 @@ zeros_by (suc n) a f =
     flipped : (b : Bool) → cond (not b) (suc zero) zero ≡ cond b zero (suc zero)
     flipped true = refl
     flipped false = refl
+
+-- the sum of bits, each as a number, is how many are 1
+pub counted : (n a : ℕ) (f : ℕ → Bool) → sum_by (λ i. bool_byte (not (f i))) (range_with_len a n) ≡ count_by (λ i. not (f i)) (range_with_len a n)
+counted zero a f = refl
+counted (suc n) a f =
+    sum_by-cons (λ i. bool_byte (not (f i))) a (range_with_len (a + 1) n)
+    ∙ ap₂ ◌+◌ (byte (not (f a))) (counted n (a + 1) f)
+    ∙ sym (sum_by-cons (λ i. cond (not (f i)) 1 0) a (range_with_len (a + 1) n))
+  where
+    byte : (b : Bool) → bool_byte b ≡ cond b 1 0
+    byte true = refl
+    byte false = refl
+
+pub summed_le : (b : BitSlice) → sum_by (λ i. bool_byte (not (bit_in b i))) (range_with_len 0 b.len) ≤ b.len
+summed_le b = omega (arith, counted b.len 0 (bit_in b), count_by-le-length (λ i. not (bit_in b i)) (range_with_len 0 b.len), length-range_with_len 0 b.len)
 
 pub one_at_most : (b : Bool) → bool_byte b ≤ 1
 one_at_most true = omega arith
